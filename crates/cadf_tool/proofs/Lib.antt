@@ -6,6 +6,7 @@ pub mod DocumentReading
 pub mod LoadedLists
 pub mod Convergence
 pub mod Runs
+pub mod SourceParts
 pub mod Rehearsals
 pub mod SiteLines
 pub mod ModelReading

@@ -106,6 +106,14 @@ module _ {A M : Type 0} {sources : Sources A} {work : A → Result M ToolFault �
       → IsErrAnd result (λ f. f ≡ fault) → AreStopped sources fault → IsRunBy sources work tell sink old old result
   stopped result fault passed s = unwritten result fault passed (unread fault s)
 
+-- there was no memory before a source was read
+pub unstarted : {A M : Type 0} {sources : Sources A} {work : A → Result M ToolFault → Type 0} (result : Result M ToolFault) (fault : ToolFault)
+    → IsErrAnd result (λ f. f ≡ fault) → fault ≡ Memory → AreUntouched sources → IsExpectedBy sources work result
+unstarted {sources = sources} {work = work} result fault passed memory u =
+    let p = err_from_is_err_and result passed in
+    let is : result ≡ Err Memory = p.1 ∙ ap Err (p.2 ∙ memory) in
+    rw is (record { is = u.unfailed; bounded = u.bounded })
+
 -- nothing is made if the last source was not read
 module _ {A B M W T : Type 0} {sources : Sources A} {number : ℕ} {t : SourceTransition} {work : A → Result M ToolFault → Type 0} {tell : M → Text}
     {sink : Sink W} {old new : W} {result : Result T ToolFault} where

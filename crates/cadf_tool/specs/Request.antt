@@ -3,7 +3,7 @@
 --     task q              how its sources are read, what is made of them, and the text of that
 --     IsRequestRun q source old new sink before after result   the run of the request on these sources, writing to this sink, has that result
 -- Sources stand in the order in which they are read, and are counted from 1. A list of one is a run on one source.
-use Rattle.std.specs.Prelude.{◌+◌, ◌-◌, ℕ, nat_le, nat_eq, Bool, true, false, List, [], ◌∷◌, map, length, take, drop, None, encode_utf8, Result}
+use Rattle.std.specs.Prelude.{◌+◌, ◌-◌, ℕ, nat_le, nat_lt, nat_eq, Bool, true, false, List, [], ◌∷◌, map, length, take, drop, None, encode_utf8, Result}
 use Rattle.cadf_json.specs.declared.stream.Source.{Ghosts as Source}
 use Rattle.cadf_json.specs.declared.stream.Sink.{Ghosts as Sink}
 use Rattle.cadf_join.specs.Contents.{Text}
@@ -35,9 +35,9 @@ use Rattle.cadf_tool.specs.Told.{replica_model_of}
 use Rattle.cadf_tool.specs.Verify.{verdict_of}
 use Rattle.cadf_tool.specs.WrittenFile.{written_file}
 
--- FROM's sources are the first `from`; what a delta or a proof is against needs one; a seal, facts and a proof are three; a script is one
+-- what a delta or a proof is against is one source at least; a seal, facts and a proof are three; a script is one
 abbrev pub accepts : Request → ℕ → Bool
-accepts (ask.Missing from) count = nat_le from count
+accepts (ask.Missing from) count = nat_lt from count
 accepts ask.MissingBy count = nat_le 1 count
 accepts ask.MissingBySketch count = nat_le 1 count
 accepts ask.Prove count = nat_le 1 count
@@ -63,6 +63,10 @@ in_two count old new = both (inputs_from 1 (take count old) (take count new)) (i
 -- the first `count` are inputs, and the next is read so
 abbrev pub and_one : {T : Type 0} → InputSpec T → ℕ → List SourceState → List SourceState → Sources (List Loaded × T)
 and_one reader count old new = both (inputs_from 1 (take count old) (take count new)) (first_as (count + 1) reader (drop count old) (drop count new))
+
+-- all but the last are inputs, and the last is read so
+abbrev pub and_last : {T : Type 0} → InputSpec T → List SourceState → List SourceState → Sources (List Loaded × T)
+and_last reader old new = and_one reader (length old - 1) old new
 
 -- the first is an input, and so are the others
 abbrev pub one_and_others : List SourceState → List SourceState → Sources (Loaded × List Loaded)
@@ -99,7 +103,7 @@ whole t = record { Read = t.Read; sources = t.sources; Made = t.Made; work = t.w
 abbrev pub against_last : {T : Type 0} → InputSpec T → (List Loaded × T → Result ReplicaModel ToolFault → Type 0) → Task
 against_last {T} reader work = record {
   Read = List Loaded × T;
-  sources = λ old new. and_one reader (length old - 1) old new;
+  sources = and_last reader;
   Made = ReplicaModel;
   work = work;
   tell = written_file;
@@ -147,7 +151,7 @@ task (ask.Rehearse log sites) = record {
   tell = sites_text;
   is_whole = true;
 }
-task (ask.Show conflicts) = whole (of_all (of_union replica_model_of) (shown_text conflicts))
+task (ask.Show conflicts) = of_all (of_union replica_model_of) (shown_text conflicts)
 task ask.Check = whole (of_all (of_union replica_model_of) checked_text)
 
 -- THE RUN

@@ -1,5 +1,5 @@
 //! The engine of `missing-by`: what a union of inputs has beyond an inventory, as a replica file.
-ghost use Rattle.std.specs.Prelude.{◌≡◌, ◌+◌, ◌-◌, ◌≤◌, ◌<◌, ◌^◌, length, map, List, None};
+ghost use Rattle.std.specs.Prelude.{◌≡◌, ◌+◌, ◌≤◌, ◌<◌, ◌^◌, length, map, List, None};
 ghost use Rattle.cadf_tool.specs.WrittenFile.{written_file};
 ghost use Rattle.cadf_tool.specs.declared.input.Loaded.{Loaded};
 ghost use Rattle.cadf_tool.specs.declared.input.Loaded.TheVariants as loaded;
@@ -7,7 +7,7 @@ ghost use Rattle.cadf_tool.specs.ModelInput.{inventory_spec};
 ghost use Rattle.cadf_tool.specs.JoinState.{IsJoinState, IsOnOk};
 ghost use Rattle.cadf_tool.specs.MissingBy.{missing_by_at, part_by, part_by_union};
 ghost use Rattle.cadf_tool.specs.Inputs.{source_state};
-ghost use Rattle.cadf_tool.specs.Request.{and_one};
+ghost use Rattle.cadf_tool.specs.Request.{and_last};
 ghost use Rattle.cadf_tool.specs.Run.{all, both, with_number, two, transition_of, input_spec, IsWorked, IsRun};
 
 use crate::fault::ToolFault;
@@ -94,7 +94,7 @@ pub(crate) fn write_missing_by<R: Source, W: Sink>(
     output: &mut W,
 ) -> Result<(), ToolFault>
     requires { 1 ≤ length sources.old }
-    ensures { IsRun (and_one inventory_spec (length sources.old - 1) (map (source_state R.Source) sources.old) (map (source_state R.Source) sources.new))
+    ensures { IsRun (and_last inventory_spec (map (source_state R.Source) sources.old) (map (source_state R.Source) sources.new))
         part_by_union written_file W.Sink output.old output.new result }
 {
     let count = sources.len() - 1;

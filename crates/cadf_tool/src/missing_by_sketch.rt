@@ -1,12 +1,12 @@
 //! The engine of `missing-by-sketch`: the delta of a union of inputs against a sketch, as a replica file.
-ghost use Rattle.std.specs.Prelude.{◌≡◌, ◌+◌, ◌-◌, ◌≤◌, ◌<◌, ◌^◌, length, map, List, None};
+ghost use Rattle.std.specs.Prelude.{◌≡◌, ◌+◌, ◌≤◌, ◌<◌, ◌^◌, length, map, List, None};
 ghost use Rattle.cadf_tool.specs.WrittenFile.{written_file};
 ghost use Rattle.cadf_tool.specs.declared.input.Loaded.{Loaded};
 ghost use Rattle.cadf_tool.specs.JoinState.{IsJoinState, IsOnOk};
 ghost use Rattle.cadf_tool.specs.Sketch.{IsAnswerTo, IsPartBySketch, IsPartOfUnionBySketch};
 ghost use Rattle.cadf_tool.specs.ModelInput.{sketch_spec};
 ghost use Rattle.cadf_tool.specs.Inputs.{source_state};
-ghost use Rattle.cadf_tool.specs.Request.{and_one};
+ghost use Rattle.cadf_tool.specs.Request.{and_last};
 ghost use Rattle.cadf_tool.specs.Run.{all, both, with_number, two, transition_of, input_spec, IsWorkedBy, IsRunBy};
 
 use crate::fault::ToolFault;
@@ -97,7 +97,7 @@ pub(crate) fn write_missing_by_sketch<R: Source, W: Sink>(
     output: &mut W,
 ) -> Result<(), ToolFault>
     requires { 1 ≤ length sources.old }
-    ensures { IsRunBy (and_one sketch_spec (length sources.old - 1) (map (source_state R.Source) sources.old) (map (source_state R.Source) sources.new))
+    ensures { IsRunBy (and_last sketch_spec (map (source_state R.Source) sources.old) (map (source_state R.Source) sources.new))
         IsPartOfUnionBySketch written_file W.Sink output.old output.new result }
 {
     let count = sources.len() - 1;

@@ -86,7 +86,7 @@ impl Request {
         ensures { result ≡ accepts self.now count }
     {
         match self {
-            Request::Missing { from } => *from <= count,
+            Request::Missing { from } => *from < count,
             Request::MissingBy | Request::MissingBySketch | Request::Prove => count >= 1,
             Request::Verify { .. } => count == 3,
             Request::Rehearse { .. } => count == 1,
