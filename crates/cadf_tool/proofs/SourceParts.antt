@@ -40,8 +40,12 @@ module _ {S M W T : Type 0} (see : S → SourceState) {tell : M → Text} {sink 
   in_two_run {work} k xs a b a' b' is count same run =
       subst (λ j. IsRunBy (in_two j (map see xs) (map see (a' ++ b'))) work tell sink old new result) count
       (subst (λ ys. IsRunBy (in_two (length a) (map see ys) (map see (a' ++ b'))) work tell sink old new result) (sym is)
-      (rw (fronts see a b, backs see a b, subst (λ j. take j (map see (a' ++ b')) ≡ map see a') same (fronts see a' b'),
-      subst (λ j. drop j (map see (a' ++ b')) ≡ map see b') same (backs see a' b')) run))
+      (rw (
+        fronts see a b,
+        backs see a b,
+        subst (λ j. take j (map see (a' ++ b')) ≡ map see a') same (fronts see a' b'),
+        subst (λ j. drop j (map see (a' ++ b')) ≡ map see b') same (backs see a' b'),
+      ) run))
 
   pub and_last_run : {B : Type 0} (reader : InputSpec B) {work : List Loaded × B → Result M ToolFault → Type 0} (xs a l a' : List S) (d y : S)
       → xs ≡ a ++ l → length l ≡ 1 → length a' ≡ length a
@@ -52,9 +56,14 @@ module _ {S M W T : Type 0} (see : S → SourceState) {tell : M → Text} {sink 
       let count : length a ≡ length (map see xs) - 1 = omega (arith, length-map xs see, ap length is, length-append a l, last) in
       subst (λ j. IsRunBy (and_one reader j (map see xs) (map see (a' ++ set l 0 y))) work tell sink old new result) count
       (subst (λ ys. IsRunBy (and_one reader (length a) (map see ys) (map see (a' ++ set l 0 y))) work tell sink old new result) (sym is)
-      (rw (fronts see a l, backs see a l, subst (λ j. take j (map see (a' ++ set l 0 y)) ≡ map see a') same (fronts see a' (set l 0 y)),
-      subst (λ j. drop j (map see (a' ++ set l 0 y)) ≡ map see (set l 0 y)) same (backs see a' (set l 0 y)), first_seen see l d last,
-      first_set see l y last) run))
+      (rw (
+        fronts see a l,
+        backs see a l,
+        subst (λ j. take j (map see (a' ++ set l 0 y)) ≡ map see a') same (fronts see a' (set l 0 y)),
+        subst (λ j. drop j (map see (a' ++ set l 0 y)) ≡ map see (set l 0 y)) same (backs see a' (set l 0 y)),
+        first_seen see l d last,
+        first_set see l y last,
+      ) run))
 
   pub one_and_others_run : {work : Loaded × List Loaded → Result M ToolFault → Type 0} (xs l b b' : List S) (d y : S) → xs ≡ l ++ b
       → length l ≡ 1
