@@ -35,7 +35,7 @@ module _ {S : Type 0} (source : Source S) where
   none_has_failed never (s ∷ ss) = (never s, none_has_failed never ss)
 
   -- as many were left as there were
-  pub none_failed : ((s : S) → source.failures s ≡ 0) → (ss rs : List S) → AreReadWithin (map source.reads ss) (map source.reads rs)
+  pub none_failed : ((s : S) → source.failures s ≡ 0) → (ss rs : List S) → AreReadWithin (map (source_state source) ss) (map (source_state source) rs)
       → NoneFailed (map (source_state source) ss) (map (source_state source) rs)
   none_failed never [] [] h = refl
   none_failed never (s ∷ ss) (r ∷ rs) h =
