@@ -35,7 +35,7 @@ CALLS = {
     "run_inventory_union": ["run_union"],
     "run_sketch_union": ["run_union"],
     "run_missing_by_sketch_union": ["run_missing_by_sketch_union"],
-    "run_seal_union": ["run_union"],
+    "run_seal_union": ["run", "Request::accepts"],
     "run_rule_union": ["run_union"],
     "run_show_union": ["run_union"],
     "run_check_union": ["run_check_union"],

@@ -4,11 +4,11 @@ use crate::answers::Answer;
 use crate::words::Words;
 use cadf_event::Name;
 use cadf_tool::{
-    Cells, CountingSink, InventoryEngine, RuleEngine, Salt, SealEngine, ShowEngine, SketchEngine,
-    ToolFault, Unit, run_check, run_check_union, run_inventory, run_join, run_missing,
-    run_missing_by, run_missing_by_sketch, run_missing_by_sketch_union, run_missing_by_union,
-    run_missing_unions, run_one, run_prove, run_rehearse, run_rule, run_show, run_split, run_union,
-    run_verify, status,
+    Cells, CountingSink, InventoryEngine, Request, RuleEngine, Salt, SealEngine, ShowEngine,
+    SketchEngine, ToolFault, Unit, run, run_check, run_check_union, run_inventory, run_join,
+    run_missing, run_missing_by, run_missing_by_sketch, run_missing_by_sketch_union,
+    run_missing_by_union, run_missing_unions, run_one, run_prove, run_rehearse, run_rule, run_show,
+    run_split, run_union, run_verify, status,
 };
 use calls::{MemorySink, MemorySource, push, push_number, refused};
 use std::alloc::{AllocError as Memory, Global};
@@ -150,10 +150,14 @@ fn inventory_union(alloc: Global, words: Words<'_>, sink: &mut Output) -> Ran {
     Some(run_union(alloc, &InventoryEngine, inputs.as_mut_slice(), sink))
 }
 
-/// Runs `run_union` of a seal. Its words are readers.
+/// Runs `run` of a seal. Its words are readers.
 fn seal_union(alloc: Global, words: Words<'_>, sink: &mut Output) -> Ran {
+    let request = Request::Seal;
     let mut inputs = sources(alloc, words, 4).ok()?;
-    Some(run_union(alloc, &SealEngine, inputs.as_mut_slice(), sink))
+    if !request.accepts(inputs.len()) {
+        return None;
+    }
+    Some(run(alloc, &request, inputs.as_mut_slice(), sink))
 }
 
 /// Runs `run_check_union`. Its words are readers.
@@ -219,7 +223,7 @@ fn run_over_union(alloc: Global, words: Words<'_>, sink: &mut Output) -> Ran {
 }
 
 /// Runs the engine of that name. `None` if there is none, or if its words don't fit.
-fn run(alloc: Global, words: Words<'_>, sink: &mut Output) -> Ran {
+fn run_call(alloc: Global, words: Words<'_>, sink: &mut Output) -> Ran {
     match words.text(0) {
         "run_join" => join(alloc, words, sink),
         "run_split" => split(alloc, words, sink),
@@ -253,7 +257,7 @@ fn answer(alloc: Global, told: String, sink: Output) -> Result<Answer, Memory> {
 /// Runs an engine, and returns its answer.
 pub(crate) fn answered(alloc: Global, words: Words<'_>) -> Result<Answer, Memory> {
     let mut sink = output(alloc, words);
-    let told = match run(alloc, words, &mut sink) {
+    let told = match run_call(alloc, words, &mut sink) {
         Some(Ok(())) => calls::answer(alloc, "ok", &[])?,
         Some(Err(fault)) => refused(alloc, &fault)?,
         None => calls::answer(alloc, "no such call", &[])?,
@@ -274,7 +278,7 @@ fn status_and_text(alloc: Global, fault: &ToolFault) -> Result<String, Memory> {
 /// Runs an engine for `fault`, and returns the status and the text of its fault.
 pub(crate) fn faulted(alloc: Global, words: Words<'_>) -> Result<Answer, Memory> {
     let mut sink = output(alloc, words);
-    let told = match run(alloc, words, &mut sink) {
+    let told = match run_call(alloc, words, &mut sink) {
         Some(Err(fault)) => status_and_text(alloc, &fault)?,
         _ => calls::answer(alloc, "no fault", &[])?,
     };
@@ -300,7 +304,7 @@ fn count_and_warning(alloc: Global, sink: &Output, limit: u64) -> Result<String,
 pub(crate) fn metered(alloc: Global, words: Words<'_>) -> Result<Answer, Memory> {
     let call = words.inner().inner();
     let mut sink = output(alloc, call);
-    let told = match run(alloc, call, &mut sink) {
+    let told = match run_call(alloc, call, &mut sink) {
         Some(_) => count_and_warning(alloc, &sink, words.number(1) as u64)?,
         None => calls::answer(alloc, "no such call", &[])?,
     };
