@@ -17,37 +17,38 @@ ghost use Rattle.cadf_tool.specs.MissingBy.{inventory_model_of, part_by};
 ghost use Rattle.cadf_tool.specs.Sketch.{AreAsked, sketch_model_of, IsPartBySketch};
 ghost use Rattle.cadf_tool.specs.Seal.{seal_model_of};
 ghost use Rattle.cadf_tool.specs.Rule.{ruling_on, ruled_of};
-ghost use Rattle.cadf_tool.specs.Exchange.{Derivation, Joined, Ruled, Operands};
-ghost use Rattle.cadf_tool.specs.Exchange.{IsDerived, IsPartOf, IsInventoryOf, IsPartByOf, IsSketchOf, IsPartBySketchOf, IsSealOf, AreSources};
-ghost use Rattle.cadf_tool.specs.TwoTexts.{IsShown, IsTextOfFile};
+ghost use Rattle.cadf_tool.specs.Exchange.{ByFiles, ByInventory, BySketch, Derivation, Joined, Ruled, Delta, Files, End, File};
+ghost use Rattle.cadf_tool.specs.Exchange.{IsDerived, AreRead, IsInventoryOf, IsSketchOf, IsSealOf, AreSources};
+ghost use Rattle.cadf_tool.specs.TwoTexts.{IsShown, IsTextOf};
 ghost use Rattle.cadf_memory.specs.Memory.{unread};
 ghost use Rattle.cadf_memory.specs.Made.{IsMadeOf, IsMadeOfTwo, IsMadeOfTwoBy, IsMadeOfAll};
 
 /// States what the engines make of derived files: what `cadf_tool::exchange::runs_make_files` states of runs.
 pub fn engines_make_files()
-    ensures join { (log : Option Text) (operands : Operands) (inputs : List (List ℕ)) (text : Text)
-        → AreSources operands (map unread inputs) → IsMadeOfAll (join_of log) written_file inputs text
-        → IsDerived (Joined log operands) text }
+    ensures join { (log : Option Text) (files : Files) (inputs : List (List ℕ)) (text : Text)
+        → AreSources files (map unread inputs) → IsMadeOfAll (join_of log) written_file inputs text
+        → IsDerived (Joined log files) text }
     ensures missing { (from to : Derivation) (a b : List ℕ) (text : Text) → IsDerived from a → IsDerived to b
-        → IsMadeOfTwo input_spec input_spec delta_between written_file a b text → IsPartOf (IsDerived from) (IsDerived to) text }
-    ensures inventory { (to : Derivation) (b : List ℕ) (text : Text) → IsDerived to b
-        → IsMadeOf input_spec inventory_model_of inventory_file b text → IsInventoryOf (IsDerived to) text }
-    ensures missing_by { (from to : Derivation) (a b : List ℕ) (text : Text) → IsDerived from a → IsInventoryOf (IsDerived to) b
-        → IsMadeOfTwo input_spec inventory_spec part_by written_file a b text → IsPartByOf (IsDerived from) (IsDerived to) text }
-    ensures sketch { (cells salt : Option ℕ) (to : Derivation) (b : List ℕ) (text : Text) → AreAsked cells salt → IsDerived to b
+        → IsMadeOfTwo input_spec input_spec delta_between written_file a b text
+        → IsDerived (Delta ByFiles (File from End) (File to End)) text }
+    ensures inventory { (of : Derivation) (b : List ℕ) (text : Text) → IsDerived of b
+        → IsMadeOf input_spec inventory_model_of inventory_file b text → IsInventoryOf (AreRead (File of End)) text }
+    ensures missing_by { (from : Derivation) (tos : Files) (a b : List ℕ) (text : Text) → IsDerived from a → IsInventoryOf (AreRead tos) b
+        → IsMadeOfTwo input_spec inventory_spec part_by written_file a b text → IsDerived (Delta ByInventory (File from End) tos) text }
+    ensures sketch { (cells salt : Option ℕ) (of : Derivation) (b : List ℕ) (text : Text) → AreAsked cells salt → IsDerived of b
         → IsMadeOf input_spec (sketch_model_of cells salt) sketch_file b text
-        → (noted : InventoryModel) × IsSketchOf (IsDerived to) noted text }
-    ensures missing_by_sketch { (from to : Derivation) (sketched : InventoryModel) (a b : List ℕ) (text : Text)
-        → IsDerived from a → IsSketchOf (IsDerived to) sketched b
+        → (noted : InventoryModel) × IsSketchOf (AreRead (File of End)) noted text }
+    ensures missing_by_sketch { (from : Derivation) (tos : Files) (sketched : InventoryModel) (a b : List ℕ) (text : Text)
+        → IsDerived from a → IsSketchOf (AreRead tos) sketched b
         → IsMadeOfTwoBy input_spec sketch_spec IsPartBySketch written_file a b text
-        → (read : InventoryModel) × IsPartBySketchOf (IsDerived from) (IsDerived to) sketched read text }
-    ensures seal { (m : Derivation) (b : List ℕ) (text : Text) → IsDerived m b
-        → IsMadeOf input_spec seal_model_of seal_file b text → IsSealOf (IsDerived m) text }
-    ensures rule { (letter key : Text) (place : ℕ) (m : Derivation) (b : List ℕ) (text : Text) → IsDerived m b
+        → (read : InventoryModel) × IsDerived (Delta (BySketch sketched read) (File from End) tos) text }
+    ensures seal { (of : Derivation) (b : List ℕ) (text : Text) → IsDerived of b
+        → IsMadeOf input_spec seal_model_of seal_file b text → IsSealOf (AreRead (File of End)) text }
+    ensures rule { (letter key : Text) (place : ℕ) (of : Derivation) (b : List ℕ) (text : Text) → IsDerived of b
         → IsMadeOf input_spec (ruled_of letter key place) written_file b text
-        → (value : Text) × IsDerived (Ruled place (ruling_on letter key value) m) text }
-    ensures show { (conflicts : Bool) (m : Derivation) (b : List ℕ) (text : Text) → IsDerived m b
-        → IsMadeOf input_spec replica_model_of (shown_text conflicts) b text → IsShown conflicts m text }
-    ensures check { (m : Derivation) (b : List ℕ) (line : Text) → IsDerived m b
-        → IsMadeOf input_spec replica_model_of checked_text b line → IsTextOfFile checked_text m line }
+        → (value : Text) × IsDerived (Ruled place (ruling_on letter key value) (File of End)) text }
+    ensures show { (conflicts : Bool) (of : Derivation) (b : List ℕ) (text : Text) → IsDerived of b
+        → IsMadeOf input_spec replica_model_of (shown_text conflicts) b text → IsShown conflicts (File of End) text }
+    ensures check { (of : Derivation) (b : List ℕ) (line : Text) → IsDerived of b
+        → IsMadeOf input_spec replica_model_of checked_text b line → IsTextOf checked_text (File of End) line }
 {}

@@ -1,165 +1,172 @@
--- Whatever was run, a file has its log, and no atoms but those of its external inputs.
-use Rattle.std.proofs.Common.{◌≡◌, ℕ, List, [], ◌∷◌, ◌++◌, Option, Some, Ok, refl, sym, ap, ◌∙◌, subst}
+-- Whatever was run, a file has its log, and no atoms but those that it brought.
+use Rattle.std.proofs.Common.{◌≡◌, ℕ, Bool, true, List, [], ◌∷◌, Option, None, Some, Ok, refl, sym, ap, ◌∙◌, subst}
 use Rattle.std.specs.Option.{option_or}
-use Rattle.cadf_join.specs.Contents.{Text, Contents, Has, IsWithin}
+use Rattle.cadf_join.specs.Contents.{Text, Texts, Contents, Has, IsWithin}
 use Rattle.cadf_join.specs.Sets as set
-use Rattle.cadf_join.specs.laws.Contents.{texts_total}
+use Rattle.cadf_join.specs.laws.Contents.{texts_total, texts_same}
 use Rattle.cadf_join.specs.laws.Sets as laws
+use Rattle.cadf_join.proofs.Members as members
+use Rattle.cadf_line.specs.Atoms.{carrier}
 use Rattle.cadf_atom.specs.AtomSets.{IsReplicaSet}
-use Rattle.cadf_atom.specs.Contributions.{Contribution, one_atom}
-use Rattle.cadf_set.specs.Inventory.{InventoryModel}
+use Rattle.cadf_atom.specs.Contributions.{ARuling, taken, one_atom}
+use Rattle.cadf_line.specs.RulingTexts.{ruling_atom}
 use Rattle.cadf_set.specs.Replica.{ReplicaModel}
-use Rattle.cadf_line.specs.RulingTexts.{RulingParts, ruling_atom}
 use Rattle.cadf_set.proofs.ContributionLaws.{kept_empty, kept_union}
+use Rattle.cadf_file.specs.File.{IsReplica}
 use Rattle.cadf_tool.specs.WrittenFile.{written_file}
 use Rattle.cadf_tool.specs.declared.input.Loaded.{Loaded}
 use Rattle.cadf_tool.specs.declared.input.Loaded.TheVariants.{Replica}
 use Rattle.cadf_tool.specs.Input.{IsInput}
 use Rattle.cadf_tool.specs.Told.{log_named, atoms_loaded, IsHeld}
 use Rattle.cadf_tool.specs.Join.{first_named, union_of, join_of}
-use Rattle.cadf_tool.specs.Rule.{ruling_at, ruled_of}
-use Rattle.cadf_tool.specs.Exchange.{Derivation, External, Empty, Joined, Ruled, Operands, End, Whole, Part, PartBy, PartBySketch}
-use Rattle.cadf_tool.specs.Exchange.{IsReadOf, IsPartOf, IsPartByOf, IsPartBySketchOf, IsDerived, AreRead}
-use Rattle.cadf_tool.specs.Exchange.{external_inputs, external_inputs_of, brought, log_of, log_in, HoldsAtMost}
+use Rattle.cadf_tool.specs.Exchange.{Means, Derivation, External, Empty, Joined, Kept, Ruled, Delta, Files, End, File, kept, IsByCarrier, files_of}
+use Rattle.cadf_tool.specs.Exchange.{IsReadOf, IsDeltaOf, IsResult, IsDerived, AreRead, IsOfRun, brought, brought_by, log_of, first_log, HoldsAtMost}
 use Rattle.cadf_tool.proofs.OneText.{one_loaded}
 use Rattle.cadf_tool.proofs.KeptInputs.{input_kept}
-use Rattle.cadf_tool.proofs.Brought.{brought_by, brought_alone, left_brought, right_brought}
+use Rattle.cadf_tool.proofs.HeldReplicas.{replica_named}
 use Rattle.cadf_tool.proofs.RuledFiles.{rule_kept, rule_log, rule_atoms}
-use Rattle.cadf_tool.proofs.InputUnions.{more_within, loaded_file, IsJoin, join_is, part_is, part_within, part_kept}
-use Rattle.cadf_tool.proofs.InventoryParts.{part_by_is, part_by_within, part_by_kept}
-use Rattle.cadf_tool.proofs.SketchParts.{part_by_read_is}
+use Rattle.cadf_tool.proofs.InputUnions.{loaded_file, join_is}
+use Rattle.cadf_tool.proofs.Deltas.{IsDelta, delta_is}
+
+-- ---- the inputs that files are read as
+
+pub files_kept : (files : Files) (ls : List Loaded) → AreRead files ls → IsReplicaSet (union_of ls)
+files_kept End [] read = kept_empty
+files_kept (File m files) (l ∷ ls) ((bytes, made, input), read) = kept_union (atoms_loaded l) (union_of ls) (input_kept bytes l input) (files_kept files ls read)
+files_kept _ _ read = absurd read
+
+-- a log that one of them names is a log's name
+files_named : (files : Files) (ls : List Loaded) (h : ReplicaModel) → AreRead files ls → first_named ls ≡ Some h.log → IsReplicaSet h.atoms → IsReplica h
+files_named End [] h read named is = absurd (cc)
+files_named (File m files) (l ∷ ls) h ((bytes, made, input), read) named is = by (log_named l) refl named (λ k. files_named files ls h read k is)
+  where
+    by : (o : Option Text) → log_named l ≡ o → option_or o (first_named ls) ≡ Some h.log → (first_named ls ≡ Some h.log → IsReplica h) → IsReplica h
+    by None e k rest = rest k
+    by (Some log) e k rest = replica_named bytes l h input (e ∙ k) is
+files_named _ _ h read named is = absurd read
+
+pub files_replica : (files : Files) (ls : List Loaded) (h : ReplicaModel) → AreRead files ls → join_of None ls ≡ Ok h → IsReplica h
+files_replica files ls h read joined =
+    let j = join_is None ls h joined in
+    files_named files ls h read j.log (subst IsReplicaSet (sym j.atoms) (files_kept files ls read))
+
+-- ---- what a run results in
+
+pub files_delta : (means : Means) (from to : Files) (h : ReplicaModel) → IsDeltaOf means (λ ls. AreRead from ls) (λ ls. AreRead to ls) h
+    → IsDelta means (λ ls. AreRead from ls) (λ ls. AreRead to ls) h
+files_delta means from to h d = delta_is means (λ ls. AreRead from ls) (λ ls. AreRead to ls) h (files_kept from) (files_replica to) d
+
+part_kept : (cut : Texts → Bool) (s : Contents) → IsByCarrier cut → IsReplicaSet s → IsReplicaSet (kept cut s)
+part_kept cut s by is = record {
+  grounded = λ q h. members.in_retain texts_total texts_same s cut (carrier q) (is.grounded q (members.retain_has texts_total texts_same s cut q h))
+      (by q ∙ members.retain_passes texts_total texts_same s cut q h);
+  are_atoms = λ q h. is.are_atoms q (members.retain_has texts_total texts_same s cut q h);
+}
+
+joined_kept : (log : Option Text) (files : Files) (ls : List Loaded) (h : ReplicaModel) → AreRead files ls → join_of log ls ≡ Ok h → IsReplicaSet h.atoms
+joined_kept log files ls h read joined = subst IsReplicaSet (sym (join_is log ls h joined).atoms) (files_kept files ls read)
+
+pub result_kept : (m : Derivation) (h : ReplicaModel) → IsResult m h → IsReplicaSet h.atoms
+result_kept (Joined log files) h (ls, read, joined) = joined_kept log files ls h read joined
+result_kept (Kept cut log files) h (by, ls, whole, read, joined, is) =
+    subst IsReplicaSet (sym (ap (λ (k : ReplicaModel). k.atoms) is)) (part_kept cut whole.atoms by (joined_kept log files ls whole read joined))
+result_kept (Ruled place ruling files) h (ls, held, read, joined, at, e) =
+    rule_kept place ruling (Replica held) h e (joined_kept None files ls held read joined)
+result_kept (Delta means from to) h d = (files_delta means from to h d).kept
+result_kept _ h r = absurd r
+
+-- the file of a run is that of its result
+pub derived_run : (m : Derivation) (bytes : List ℕ) → IsOfRun m → IsDerived m bytes → (h : ReplicaModel) × IsResult m h × (bytes ≡ written_file h)
+derived_run (Joined log files) bytes run d = d
+derived_run (Kept cut log files) bytes run d = d
+derived_run (Ruled place ruling files) bytes run d = d
+derived_run (Delta means from to) bytes run d = d
+derived_run _ bytes run d = absurd run
+
+pub as_run : (m : Derivation) (l : Loaded) → IsOfRun m → IsReadOf (λ b. IsDerived m b) l → (h : ReplicaModel) × IsResult m h × (l ≡ Replica h)
+as_run m l run (bytes, made, input) =
+    let d = derived_run m bytes run made in (d.0, d.1, loaded_file bytes d.0 l (result_kept m d.0 d.1) d.2 input)
+
+-- ---- nothing else is in a file
 
 pub record IsReadWithin (m : Derivation) (l : Loaded) : Type 0 where
   pub log : log_named l ≡ log_of m
   pub atoms : IsWithin (atoms_loaded l) (brought m)
 
+pub record AreReadWithin (files : Files) (ls : List Loaded) : Type 0 where
+  pub log : first_named ls ≡ first_log files
+  pub atoms : IsWithin (union_of ls) (brought_by files)
+
+result_within : (m : Derivation) (h : ReplicaModel) → IsResult m h → ((ls : List Loaded) → AreRead (files_of m) ls → AreReadWithin (files_of m) ls) → HoldsAtMost m h
+result_within (Joined log files) h (ls, read, joined) f =
+    let w = f ls read in
+    let j = join_is log ls h joined in
+    record { log = sym (ap (option_or log) w.log) ∙ j.log; atoms = λ q k. w.atoms q (subst (λ s. Has s q) j.atoms k) }
+result_within (Kept cut log files) h (by, ls, whole, read, joined, is) f =
+    let w = f ls read in
+    let j = join_is log ls whole joined in
+    record {
+      log = sym (ap (option_or log) w.log) ∙ j.log ∙ ap (λ (k : ReplicaModel). Some k.log) (sym is);
+      atoms = λ q k.
+          let in_part : Has (kept cut whole.atoms) q = subst (λ (t : ReplicaModel). Has t.atoms q) is k in
+          members.in_retain texts_total texts_same (brought_by files) cut q
+          (w.atoms q (subst (λ s. Has s q) j.atoms (members.retain_has texts_total texts_same whole.atoms cut q in_part)))
+          (members.retain_passes texts_total texts_same whole.atoms cut q in_part);
+    }
+result_within (Ruled place ruling files) h (ls, held, read, joined, at, e) f =
+    let w = f ls read in
+    let j = join_is None ls held joined in
+    let one : Contents = one_atom (ruling_atom ruling) in
+    record {
+      log = sym w.log ∙ j.log ∙ rule_log place ruling (Replica held) h e;
+      atoms = subst (λ s. IsWithin s (set.union (brought_by files) one)) (sym (rule_atoms place ruling (Replica held) h e at))
+          (laws.union_rises texts_total held.atoms one (brought_by files) one (λ q k. w.atoms q (subst (λ s. Has s q) j.atoms k)) (laws.IsWithin-refl one));
+    }
+result_within (Delta means from to) h made f =
+    let d = files_delta means from to h made in
+    let w = f d.froms d.read in
+    record { log = sym w.log ∙ d.log; atoms = λ q k. w.atoms q (d.within q k) }
+result_within _ h r f = absurd r
+
 loaded_within : (m : Derivation) (l : Loaded) (h : ReplicaModel) → l ≡ Replica h → HoldsAtMost m h → IsReadWithin m l
 loaded_within m l h same told = record { log = ap log_named same ∙ sym told.log; atoms = λ q k. told.atoms q (subst (λ t. Has (atoms_loaded t) q) same k) }
 
-read_same : (m : Derivation) (l : Loaded) → log_named l ≡ log_of m → atoms_loaded l ≡ brought m → IsReadWithin m l
-read_same m l log atoms = record { log = log; atoms = λ q k. subst (λ s. Has s q) atoms k }
+run_within : (m : Derivation) (l : Loaded) → IsOfRun m → IsReadOf (λ b. IsDerived m b) l
+    → ((ls : List Loaded) → AreRead (files_of m) ls → AreReadWithin (files_of m) ls) → IsReadWithin m l
+run_within m l run r f = let a = as_run m l run r in loaded_within m l a.0 a.2 (result_within m a.0 a.1 f)
 
-outside_read : (given : List ℕ) (l loaded : Loaded) → l ≡ loaded → IsReadWithin (External given loaded) l
-outside_read given l loaded same = read_same (External given loaded) l (ap log_named same) (ap atoms_loaded same ∙ sym (brought_alone loaded))
+-- what is read of a file that no run wrote
+pub external_read : (given : List ℕ) (loaded l : Loaded) → IsReadOf (λ b. IsDerived (External given loaded) b) l → l ≡ loaded
+external_read given loaded l (bytes, made, input) = one_loaded bytes l loaded input (subst (λ b. IsInput b loaded) (sym made.0) made.1)
 
-empty_read : (log : Text) (bytes : List ℕ) (l : Loaded) → IsDerived (Empty log) bytes → IsInput bytes l → IsReadWithin (Empty log) l
-empty_read log bytes l made input =
+pub empty_read : (log : Text) (l : Loaded) → IsReadOf (λ b. IsDerived (Empty log) b) l → (log_named l ≡ Some log) × (atoms_loaded l ≡ set.empty)
+empty_read log l (bytes, made, input) =
     let same = one_loaded bytes l made.loaded input made.input in
-    read_same (Empty log) l (ap log_named same ∙ made.named) (ap atoms_loaded same ∙ sym made.atoms)
-
--- the ruling, and the replica that was read from the file before it
-pub ruled_within : (place : ℕ) (ruling : RulingParts) (m : Derivation) (loaded : Loaded) (h : ReplicaModel) → IsReadWithin m loaded
-    → ruling_at (atoms_loaded loaded) ruling.letter ruling.key place ≡ Ok ruling → ruled_of ruling.letter ruling.key place loaded ≡ Ok h
-    → HoldsAtMost (Ruled place ruling m) h
-ruled_within place ruling m loaded h r at made =
-    let one : Contents = one_atom (ruling_atom ruling) in
-    record {
-      log = sym r.log ∙ rule_log place ruling loaded h made;
-      atoms = subst (λ s. IsWithin s (set.union one (brought m))) (sym (rule_atoms place ruling loaded h made at))
-          (laws.IsWithin-union texts_total (atoms_loaded loaded) one _
-          (λ q k. laws.IsWithin-right texts_total one (brought m) q (r.atoms q k))
-          (laws.IsWithin-left texts_total one (brought m)));
-    }
-
-pub joined_within : (log : Option Text) (operands : Operands) (inputs : List Loaded) (h : ReplicaModel) → join_of log inputs ≡ Ok h
-    → first_named inputs ≡ log_in operands
-    → IsWithin (union_of inputs) (brought_by (external_inputs_of operands)) → HoldsAtMost (Joined log operands) h
-joined_within log operands inputs h joined names low =
-    let j : IsJoin log inputs h = join_is log inputs h joined in
-    record { log = sym (ap (option_or log) names) ∙ j.log; atoms = λ q k. low q (subst (λ s. Has s q) j.atoms k) }
-
--- ---- a replica that is read satisfies its invariant
-
-inputs_kept : (operands : Operands) (inputs : List Loaded) → AreRead operands inputs → IsReplicaSet (union_of inputs)
-inputs_kept End [] read = kept_empty
-inputs_kept (Whole m operands) (l ∷ ls) ((bytes, made, input), read) = kept_union (atoms_loaded l) (union_of ls) (input_kept bytes l input)
-    (inputs_kept operands ls read)
-inputs_kept (Part from to operands) (l ∷ ls) ((bytes, made, input), read) = kept_union (atoms_loaded l) (union_of ls) (input_kept bytes l input)
-    (inputs_kept operands ls read)
-inputs_kept (PartBy from to operands) (l ∷ ls) ((bytes, made, input), read) = kept_union (atoms_loaded l) (union_of ls) (input_kept bytes l input)
-    (inputs_kept operands ls read)
-inputs_kept (PartBySketch from to sketched read operands) (l ∷ ls) ((bytes, made, input), more) =
-    kept_union (atoms_loaded l) (union_of ls) (input_kept bytes l input) (inputs_kept operands ls more)
-inputs_kept _ _ read = absurd read
-
-pub join_kept : (log : Option Text) (operands : Operands) (inputs : List Loaded) (h : ReplicaModel) → AreRead operands inputs → join_of log inputs ≡ Ok h
-    → IsReplicaSet h.atoms
-join_kept log operands inputs h read joined = subst IsReplicaSet (sym (join_is log inputs h joined).atoms) (inputs_kept operands inputs read)
-
--- ---- deltas
-
-part_of_read : (from : Derivation) (one l : Loaded) (h : ReplicaModel) (bytes : List ℕ) → IsReadWithin from one → log_named one ≡ Some h.log
-    → IsWithin h.atoms (atoms_loaded one) → IsReplicaSet h.atoms
-    → bytes ≡ written_file h → IsInput bytes l → IsReadWithin from l
-part_of_read from one l h bytes r name low kept is input =
-    loaded_within from l h (loaded_file bytes h l kept is input) (record { log = sym r.log ∙ name; atoms = λ q k. r.atoms q (low q k) })
-
-part_read : (from : Derivation) (to : List ℕ → Type 0) (l : Loaded) → ((one : Loaded) → IsReadOf (λ b. IsDerived from b) one → IsReadWithin from one)
-    → IsReadOf (IsPartOf (λ b. IsDerived from b) to) l → IsReadWithin from l
-part_read from to l f (bytes, (one, other, r, s, (h, e, is)), input) =
-    let p = part_is one other h e in
-    part_of_read from one l h bytes (f one r) p.log (part_within r.0 one other h r.2 p) (part_kept r.0 one other h r.2 p) is input
-
-part_by_read : (from : Derivation) (to : List ℕ → Type 0) (l : Loaded) → ((one : Loaded) → IsReadOf (λ b. IsDerived from b) one → IsReadWithin from one)
-    → IsReadOf (IsPartByOf (λ b. IsDerived from b) to) l → IsReadWithin from l
-part_by_read from to l f (bytes, (one, noted, r, s, (h, e, is)), input) =
-    let p = part_by_is one noted h e in
-    part_of_read from one l h bytes (f one r) p.log (part_by_within r.0 one noted h r.2 p) (part_by_kept r.0 one noted h r.2 p) is input
-
-part_by_sketch_read : (from : Derivation) (to : List ℕ → Type 0) (sketched read : InventoryModel) (l : Loaded)
-    → ((one : Loaded) → IsReadOf (λ b. IsDerived from b) one → IsReadWithin from one)
-    → IsReadOf (IsPartBySketchOf (λ b. IsDerived from b) to sketched read) l → IsReadWithin from l
-part_by_sketch_read from to sketched read l f (bytes, (one, sketch, h, r, s, e, is), input) =
-    let p = part_by_read_is one sketch read h e in
-    part_of_read from one l h bytes (f one r) p.log (part_by_within r.0 one read h r.2 p) (part_by_kept r.0 one read h r.2 p) is input
-
--- ---- the replica that is read from a file
-
-first_within : (m : Derivation) (cs : List Contribution) (l : Loaded) (ls : List Loaded) → IsReadWithin m l → IsWithin (union_of ls) (brought_by cs)
-    → IsWithin (union_of (l ∷ ls)) (brought_by (external_inputs m ++ cs))
-first_within m cs l ls r low = more_within l ls _ (λ q k. left_brought (external_inputs m) cs q (r.atoms q k))
-    (λ q k. right_brought (external_inputs m) cs q (low q k))
+    (ap log_named same ∙ made.named, ap atoms_loaded same ∙ sym made.atoms)
 
 mutual
   pub read_within : (m : Derivation) (l : Loaded) → IsReadOf (λ b. IsDerived m b) l → IsReadWithin m l
-  read_within (External given loaded) l (bytes, made, input) =
-      outside_read given l loaded (one_loaded bytes l loaded input (subst (λ b. IsInput b loaded) (sym made.0) made.1))
-  read_within (Empty log) l (bytes, made, input) = empty_read log bytes l made input
-  read_within (Joined log operands) l (bytes, (inputs, read, (h, joined, is)), input) =
-      loaded_within (Joined log operands) l h (loaded_file bytes h l (join_kept log operands inputs h read joined) is input)
-      (joined_within log operands inputs h joined (names operands inputs read) (inputs_within operands inputs read))
-  read_within (Ruled place ruling m) l (bytes, (loaded, read, at, (h, made, is)), input) =
-      loaded_within (Ruled place ruling m) l h (loaded_file bytes h l (rule_kept place ruling loaded h made read.0 read.2) is input)
-      (ruled_within place ruling m loaded h (read_within m loaded read) at made)
+  read_within (External given loaded) l r =
+      let same = external_read given loaded l r in record { log = ap log_named same; atoms = λ q k. subst (λ t. Has (atoms_loaded t) q) same k }
+  read_within (Empty log) l r = let e = empty_read log l r in record { log = e.0; atoms = λ q k. subst (λ s. Has s q) e.1 k }
+  read_within (Joined log files) l r = run_within (Joined log files) l tt r (files_within files)
+  read_within (Kept cut log files) l r = run_within (Kept cut log files) l tt r (files_within files)
+  read_within (Ruled place ruling files) l r = run_within (Ruled place ruling files) l tt r (files_within files)
+  read_within (Delta means from to) l r = run_within (Delta means from to) l tt r (files_within from)
 
-  pub names : (operands : Operands) (inputs : List Loaded) → AreRead operands inputs → first_named inputs ≡ log_in operands
-  names End [] read = refl
-  names (Whole m operands) (l ∷ ls) read = λ i. option_or ((read_within m l read.0).log i) (names operands ls read.1 i)
-  names (Part from to operands) (l ∷ ls) read =
-      let r = part_read from (λ b. IsDerived to b) l (read_within from) read.0 in
-      λ i. option_or (r.log i) (names operands ls read.1 i)
-  names (PartBy from to operands) (l ∷ ls) read =
-      let r = part_by_read from (λ b. IsDerived to b) l (read_within from) read.0 in
-      λ i. option_or (r.log i) (names operands ls read.1 i)
-  names (PartBySketch from to sketched read operands) (l ∷ ls) more =
-      let r = part_by_sketch_read from (λ b. IsDerived to b) sketched read l (read_within from) more.0 in
-      λ i. option_or (r.log i) (names operands ls more.1 i)
-  names _ _ read = absurd read
+  pub files_within : (files : Files) (ls : List Loaded) → AreRead files ls → AreReadWithin files ls
+  files_within End [] read = record { log = refl; atoms = laws.IsWithin-refl _ }
+  files_within (File m files) (l ∷ ls) read =
+      let r = read_within m l read.0 in
+      let rest = files_within files ls read.1 in
+      record {
+        log = λ i. option_or (r.log i) (rest.log i);
+        atoms = laws.union_rises texts_total (atoms_loaded l) (union_of ls) (brought m) (brought_by files) r.atoms rest.atoms;
+      }
+  files_within _ _ read = absurd read
 
-  -- nothing else is joined
-  pub inputs_within : (operands : Operands) (inputs : List Loaded) → AreRead operands inputs
-      → IsWithin (union_of inputs) (brought_by (external_inputs_of operands))
-  inputs_within End [] read = laws.IsWithin-refl _
-  inputs_within (Whole m operands) (l ∷ ls) read = first_within m (external_inputs_of operands) l ls (read_within m l read.0) (inputs_within operands ls read.1)
-  inputs_within (Part from to operands) (l ∷ ls) read =
-      first_within from (external_inputs_of operands) l ls (part_read from (λ b. IsDerived to b) l (read_within from) read.0) (inputs_within operands ls read.1)
-  inputs_within (PartBy from to operands) (l ∷ ls) read =
-      first_within from (external_inputs_of operands) l ls (part_by_read from (λ b. IsDerived to b) l (read_within from) read.0)
-      (inputs_within operands ls read.1)
-  inputs_within (PartBySketch from to sketched read operands) (l ∷ ls) more =
-      first_within from (external_inputs_of operands) l ls (part_by_sketch_read from (λ b. IsDerived to b) sketched read l (read_within from) more.0)
-      (inputs_within operands ls more.1)
-  inputs_within _ _ read = absurd read
+pub result_at_most : (m : Derivation) (h : ReplicaModel) → IsResult m h → HoldsAtMost m h
+result_at_most m h r = result_within m h r (files_within (files_of m))
 
 pub held_within : (m : Derivation) (bytes : List ℕ) (h : ReplicaModel) → IsDerived m bytes → IsHeld bytes h → HoldsAtMost m h
 held_within m bytes h made held =

@@ -7,23 +7,25 @@ use Rattle.cadf_atom.specs.AtomSets.{IsReplicaSet}
 use Rattle.cadf_line.specs.Missing.{Digests, digests_of, unknown, missing_by, NoCollision}
 use Rattle.cadf_set.specs.Replica.{ReplicaModel}
 use Rattle.cadf_line.proofs.Missing.{with_carriers_grounded, with_carriers_least, unknown_has, missing_by_is, digest_of_some}
+use Rattle.cadf_event.specs.LogName.{is_name_text}
+use Rattle.cadf_file.specs.File.{IsReplica}
+use Rattle.cadf_line.proofs.Lists.{Some-same}
 use Rattle.cadf_inventory.specs.InventoryFile.{IsInventory}
 use Rattle.cadf_inventory.proofs.InventoryVerdictLemmas.{inventory-file-tells}
 use Rattle.cadf_tool.specs.declared.input.Loaded.{Loaded}
 use Rattle.cadf_tool.specs.declared.fault.ToolFault.{ToolFault}
 use Rattle.cadf_tool.specs.declared.fault.ToolFault.TheVariants.{OtherLog}
-use Rattle.cadf_tool.specs.Input.{IsInput}
-use Rattle.cadf_tool.specs.Told.{log_named, atoms_loaded, IsHeld}
-use Rattle.cadf_tool.specs.Join.{is_other}
-use Rattle.cadf_tool.specs.Missing.{under_one_log}
+use Rattle.cadf_tool.specs.declared.input.Loaded.TheVariants.{Replica}
+use Rattle.cadf_tool.specs.Told.{log_named, atoms_loaded}
+use Rattle.cadf_tool.specs.Join.{is_other, join_of}
+use Rattle.cadf_tool.specs.Missing.{under_one_log_at}
 use Rattle.cadf_line.specs.Digest.{atom_digest, IsDigest}
 use Rattle.cadf_set.specs.Inventory.{InventoryModel, AreDigests}
-use Rattle.cadf_tool.specs.MissingBy.{inventory_model_under, inventory_model_of, missing_by_of}
-use Rattle.cadf_tool.specs.Exchange.{IsReadOf, IsInventoryReadOf}
+use Rattle.cadf_tool.specs.MissingBy.{inventory_model_under, inventory_model_of, missing_by_at}
+use Rattle.cadf_tool.specs.Exchange.{IsInventoryReadOf}
 use Rattle.cadf_line.specs.AtomLine.{line}
 use Rattle.cadf_sketch.proofs.WholeLemmas.{sha_digest}
-use Rattle.cadf_tool.proofs.KeptInputs.{input_kept, input_grounded}
-use Rattle.cadf_tool.proofs.HeldReplicas.{held_replica}
+use Rattle.cadf_tool.proofs.Unions.{ok_of}
 use Rattle.cadf_tool.proofs.InputUnions.{IsPart, replica_model_under, held_same}
 
 -- ---- the inventory of an input
@@ -53,26 +55,22 @@ notes loaded noted e = by (log_named loaded) refl e
 are_digests : (s : Contents) → AreDigests (digests_of atom_digest s)
 are_digests s d h = let t = digest_of_some atom_digest s d h in subst IsDigest (sym t.2) (sha_digest (line t.0))
 
--- the inventory made from an input satisfies its invariant
-pub notes_inventory : (bytes : List ℕ) (loaded : Loaded) (noted : InventoryModel) → IsInput bytes loaded → Notes loaded noted → IsInventory noted
-notes_inventory bytes loaded noted input n =
-    let held : IsHeld bytes (record { log = noted.log; atoms = atoms_loaded loaded }) = record {
-      loaded = loaded;
-      input = input;
-      named = n.log;
-      atoms = refl;
-    } in
-    record {
-      log = (held_replica bytes (record { log = noted.log; atoms = atoms_loaded loaded }) held).log;
-      digests = subst AreDigests (sym n.digests) (are_digests (atoms_loaded loaded));
-    }
+-- the inventory satisfies its invariant, by a replica of its log
+pub notes_inventory : (loaded : Loaded) (noted : InventoryModel) (h : ReplicaModel) → IsReplica h → h.log ≡ noted.log → Notes loaded noted → IsInventory noted
+notes_inventory loaded noted h r same n = record {
+  log = subst (λ t. is_name_text t ≡ true) same r.log;
+  digests = subst AreDigests (sym n.digests) (are_digests (atoms_loaded loaded));
+}
 
--- the inventory read from an inventory's file is the one made from the input
-pub noted_by : (to : List ℕ → Type 0) (noted : InventoryModel) → IsInventoryReadOf to noted → (other : Loaded) × IsReadOf to other × Notes other noted
-noted_by to noted (bytes, (other, written, read, made, is), input) =
-    let n : Notes other written = notes other written made in
-    let same : written ≡ noted = inventory-file-tells written noted (notes_inventory read.0 other written read.2 n) input.holds (sym is ∙ input.is) in
-    (other, read, subst (Notes other) same n)
+-- the inventory that was read was made of the union
+pub noted_by : (of : List Loaded → Type 0) (noted : InventoryModel) → ((ls : List Loaded) (k : ReplicaModel) → of ls → join_of None ls ≡ Ok k → IsReplica k)
+    → IsInventoryReadOf of noted → (ls : List Loaded) × (k : ReplicaModel) × of ls × (join_of None ls ≡ Ok k) × Notes (Replica k) noted
+noted_by of noted known (bytes, (ls, written, read, made, is), input) =
+    let u = ok_of (join_of None ls) (λ k. inventory_model_of (Replica k)) written made in
+    let n : Notes (Replica u.0) written = notes (Replica u.0) written u.2 in
+    let inventory = notes_inventory (Replica u.0) written u.0 (known ls u.0 read u.1) (Some-same u.0.log written.log n.log) n in
+    let same : written ≡ noted = inventory-file-tells written noted inventory input.holds (sym is ∙ input.is) in
+    (ls, u.0, read, u.1, subst (Notes (Replica u.0)) same n)
 
 -- ---- the delta against an inventory
 
@@ -80,32 +78,32 @@ pub record IsPartBy (from : Loaded) (noted : InventoryModel) (part : ReplicaMode
   pub log : log_named from ≡ Some part.log
   pub atoms : part.atoms ≡ missing_by atom_digest (atoms_loaded from) noted.digests
 
-pub part_by_is : (from : Loaded) (noted : InventoryModel) (part : ReplicaModel) → missing_by_of from noted ≡ Ok part → IsPartBy from noted part
-part_by_is from noted part e = by (log_named from) refl e
+pub part_by_is : (number : ℕ) (from : Loaded) (noted : InventoryModel) (part : ReplicaModel) → missing_by_at number from noted ≡ Ok part → IsPartBy from noted part
+part_by_is number from noted part e = by (log_named from) refl e
   where
     atoms : Contents
     atoms = missing_by atom_digest (atoms_loaded from) noted.digests
 
-    one_log : (name : Text) (b : Bool) → log_named from ≡ Some name → cond b (Err (OtherLog 2)) (Ok (replica_model_under name atoms)) ≡ Ok part
+    one_log : (name : Text) (b : Bool) → log_named from ≡ Some name → cond b (Err (OtherLog number)) (Ok (replica_model_under name atoms)) ≡ Ok part
         → IsPartBy from noted part
     one_log name true is k = absurd (cc)
     one_log name false is k = let same = held_same name atoms part k in record { log = is ∙ ap Some same.0; atoms = same.1 }
 
-    by : (o : Option Text) → log_named from ≡ o → under_one_log o (Some noted.log) atoms ≡ Ok part → IsPartBy from noted part
+    by : (o : Option Text) → log_named from ≡ o → under_one_log_at number o (Some noted.log) atoms ≡ Ok part → IsPartBy from noted part
     by None is k = absurd (cc)
     by (Some name) is k = one_log name (is_other name (Some noted.log)) is k
 
-pub part_by_within : (bytes : List ℕ) (from : Loaded) (noted : InventoryModel) (part : ReplicaModel) → IsInput bytes from → IsPartBy from noted part
+pub part_by_within : (from : Loaded) (noted : InventoryModel) (part : ReplicaModel) → IsGrounded (atoms_loaded from) → IsPartBy from noted part
     → IsWithin part.atoms (atoms_loaded from)
-part_by_within bytes from noted part is p =
+part_by_within from noted part g p =
     subst (λ s. IsWithin s (atoms_loaded from)) (sym p.atoms)
-    (with_carriers_least _ (atoms_loaded from) (input_grounded bytes from is, unknown_has atom_digest (atoms_loaded from) noted.digests))
+    (with_carriers_least _ (atoms_loaded from) (g, unknown_has atom_digest (atoms_loaded from) noted.digests))
 
-pub part_by_kept : (bytes : List ℕ) (from : Loaded) (noted : InventoryModel) (part : ReplicaModel) → IsInput bytes from → IsPartBy from noted part
+pub part_by_kept : (from : Loaded) (noted : InventoryModel) (part : ReplicaModel) → IsReplicaSet (atoms_loaded from) → IsPartBy from noted part
     → IsReplicaSet part.atoms
-part_by_kept bytes from noted part is p = record {
+part_by_kept from noted part kept p = record {
   grounded = subst IsGrounded (sym p.atoms) (with_carriers_grounded (unknown atom_digest (atoms_loaded from) noted.digests));
-  are_atoms = λ q h. (input_kept bytes from is).are_atoms q (part_by_within bytes from noted part is p q h);
+  are_atoms = λ q h. kept.are_atoms q (part_by_within from noted part kept.grounded p q h);
 }
 
 -- if no two different atoms share a digest, it is the delta against the input itself

@@ -23,11 +23,14 @@ pub mod ShownAgain
 pub mod InventoryParts
 pub mod SketchParts
 pub mod Brought
+pub mod Forgotten
 pub mod RuledFiles
+pub mod Deltas
 pub mod ExchangeWithin
 pub mod ExchangeLemmas
 pub mod ExchangeLaws
 pub mod MadeByRuns
 pub mod Accepted
+pub mod FolderParts
 pub mod TwoTexts
 pub mod RulingAdded

@@ -1,5 +1,5 @@
 -- What engines write for derived files.
-use Rattle.std.proofs.Common.{◌≡◌, ℕ, List, map, ◌++◌, Option, Some, Ok, Err, Result, refl, ap, ◌∙◌, subst}
+use Rattle.std.proofs.Common.{◌≡◌, ℕ, List, map, ◌++◌, Option, None, Some, Ok, Err, Result, refl, ap, ◌∙◌, subst}
 use Rattle.std.specs.Io.KnownBytes.{Appends}
 use Rattle.cadf_json.specs.declared.stream.Source.{Ghosts as Source}
 use Rattle.cadf_json.specs.declared.stream.Sink.{Ghosts as Sink}
@@ -9,19 +9,21 @@ use Rattle.cadf_set.specs.Replica.{ReplicaModel}
 use Rattle.cadf_sketch.specs.SketchFile.{sketch_file}
 use Rattle.cadf_tool.specs.WrittenFile.{written_file}
 use Rattle.cadf_tool.specs.declared.input.Loaded.{Loaded}
+use Rattle.cadf_tool.specs.declared.input.Loaded.TheVariants.{Replica}
 use Rattle.cadf_tool.specs.declared.fault.ToolFault.{ToolFault}
-use Rattle.cadf_tool.specs.Told.{log_named, atoms_loaded, replica_model_of}
+use Rattle.cadf_tool.specs.Told.{replica_model_of}
 use Rattle.cadf_tool.specs.Inputs.{source_state}
-use Rattle.cadf_tool.specs.Run.{InputSpec, transition_of, Sources, one, two, all, input_spec, IsExpectedOfBy, IsAnswer, IsRun, IsRunBy}
+use Rattle.cadf_tool.specs.Run.{Sources, both, all, AreLoaded, IsExpectedOfBy, IsAnswer, IsRun, IsRunBy}
 use Rattle.cadf_tool.specs.Sketch.{AreAsked, sketch_model_of}
-use Rattle.cadf_tool.specs.Join.{join_of}
+use Rattle.cadf_tool.specs.Join.{join_of, on_ok, of_union}
+use Rattle.cadf_tool.specs.MissingBy.{inventory_model_of}
 use Rattle.cadf_tool.specs.Rule.{ruling_on, ruling_for, ruled_of}
-use Rattle.cadf_tool.specs.TwoTexts.{IsTextOfFile}
-use Rattle.cadf_tool.specs.Exchange.{Derivation, Joined, Ruled, Operands, IsReadOf, IsDerived, IsOutputOf, IsSketchOf}
-use Rattle.cadf_tool.specs.Exchange.{GivesFile, AreSources}
+use Rattle.cadf_tool.specs.TwoTexts.{IsTextOf}
+use Rattle.cadf_tool.specs.Exchange.{Ruled, Files, IsResult, AreRead, IsOutputOf, IsSketchOf, AreSources}
 use Rattle.cadf_tool.proofs.RulingAdded.{ruled_is}
-use Rattle.cadf_tool.proofs.SketchParts.{sketched_is, held_named}
-use Rattle.cadf_tool.proofs.ExchangeLaws.{read_of, are_read, written_behind}
+use Rattle.cadf_tool.proofs.SketchParts.{sketched_is}
+use Rattle.cadf_tool.proofs.Unions.{ok_of}
+use Rattle.cadf_tool.proofs.ExchangeLaws.{are_read, written_behind}
 
 -- ---- a run that returned Ok
 
@@ -55,83 +57,63 @@ text_behind sink old new before bytes begun w = written_behind before (sink.writ
 
 module _ {S W T : Type 0} (source : Source S) (sink : Sink W) (old new : W) (t : T) (before : List ℕ)
     (begun : sink.written old ≡ Some before) where
-  behind : (bytes : List ℕ) → Appends (sink.written old) (sink.written new) bytes → sink.written new ≡ Some (before ++ bytes)
-  behind bytes w = text_behind sink old new before bytes begun w
+  abbrev pub Wrote : Text → Type 0
+  Wrote text = sink.written new ≡ Some (before ++ text)
 
-  pub join_makes : (log : Option Text) (operands : Operands) (inputs after : List S) → AreSources operands (map (source_state source) inputs)
-      → IsRun (all source inputs after) (join_of log) written_file sink old new (Ok t)
-      → (bytes : List ℕ) × (sink.written new ≡ Some (before ++ bytes)) × IsDerived (Joined log operands) bytes
-  join_makes log operands inputs after given run =
-      let r = run_ok _ _ _ _ _ _ _ run in (
-        written_file r.made,
-        behind (written_file r.made) r.written,
-        (
-          r.value,
-          are_read operands (map (source_state source) inputs) (map (source_state source) after) r.value given r.are,
-          (r.made, r.worked, refl),
-        ),
-      )
+  module _ (files : Files) (inputs after : List S) (given : AreSources files (map (source_state source) inputs)) where
+    all_given : (ls : List Loaded) → AreLoaded (map (source_state source) inputs) (map (source_state source) after) ls → AreRead files ls
+    all_given ls are = are_read files (map (source_state source) inputs) (map (source_state source) after) ls given are
 
-  -- an engine whose work makes a replica of an input and of what a second source encodes
-  pub part_makes : {U : Type 0} (spec : InputSpec U) (work : Loaded × U → Result ReplicaModel ToolFault → Type 0) (from : Derivation) (P : List ℕ → Type 0)
-      (input other after other_after : S) → GivesFile (λ b. IsDerived from b) (source_state source input) → GivesFile P (source_state source other)
-      → IsRunBy (two input_spec (transition_of source input after) spec (transition_of source other other_after)) work written_file sink old new (Ok t)
-      → (bytes : List ℕ) × (sink.written new ≡ Some (before ++ bytes)) × ((one : Loaded) × (value : U) × IsReadOf (λ b. IsDerived from b) one
-      × ((b : List ℕ) × P b × spec.is b value) × ((h : ReplicaModel) × work (one, value) (Ok h) × (bytes ≡ written_file h)))
-  part_makes spec work from P input other after other_after s u run =
-      let r = run_ok _ _ _ _ _ _ _ run in (
-        written_file r.made,
-        behind (written_file r.made) r.written,
-        (
+    -- an engine whose work is a function of a list of inputs
+    pub list_makes : {M : Type 0} (work : List Loaded → Result M ToolFault) (tell : M → Text)
+        → IsRun (all source inputs after) work tell sink old new (Ok t)
+        → (ls : List Loaded) × (made : M) × AreRead files ls × (work ls ≡ Ok made) × Wrote (tell made)
+    list_makes work tell run =
+        let r = run_ok _ _ _ _ _ _ _ run in
+        (r.value, r.made, all_given r.value r.are, r.worked, text_behind sink old new before (tell r.made) begun r.written)
+
+    pub output_makes : {M : Type 0} (work : Loaded → Result M ToolFault) (tell : M → Text)
+        → IsRun (all source inputs after) (of_union work) tell sink old new (Ok t)
+        → (text : Text) × Wrote text × IsOutputOf work tell (λ ls. AreRead files ls) text
+    output_makes work tell run =
+        let r = list_makes (of_union work) tell run in (tell r.1, r.4, (r.0, r.1, r.2, r.3, refl))
+
+    -- an engine that works on such a list and on what is read of a second source, or of a second list
+    pub beside_makes : {B : Type 0} (second : Sources B) (work : List Loaded × B → Result ReplicaModel ToolFault → Type 0)
+        → IsRunBy (both (all source inputs after) second) work written_file sink old new (Ok t)
+        → (ls : List Loaded) × (b : B) × (h : ReplicaModel) × AreRead files ls × second.are b × work (ls, b) (Ok h) × Wrote (written_file h)
+    beside_makes second work run =
+        let r = run_ok _ _ _ _ _ _ _ run in (
           r.value.0,
           r.value.1,
-          read_of input_spec (λ b. IsDerived from b) (source_state source input) (source_state source after) r.value.0 s r.are.0,
-          read_of spec P (source_state source other) (source_state source other_after) r.value.1 u r.are.1,
-          (r.made, r.worked, refl),
-        ),
-      )
-
-  -- an engine whose work is a function of one input
-  pub output_makes : {M : Type 0} (work : Loaded → Result M ToolFault) (tell : M → Text) (m : Derivation) (input after : S)
-      → GivesFile (λ b. IsDerived m b) (source_state source input)
-      → IsRun (one input_spec (transition_of source input after)) work tell sink old new (Ok t)
-      → (bytes : List ℕ) × (sink.written new ≡ Some (before ++ bytes)) × IsOutputOf work tell (λ b. IsDerived m b) bytes
-  output_makes work tell m input after s run =
-      let r = run_ok _ _ _ _ _ _ _ run in (
-        tell r.made,
-        behind (tell r.made) r.written,
-        (
-          r.value,
           r.made,
-          read_of input_spec (λ b. IsDerived m b) (source_state source input) (source_state source after) r.value s r.are,
+          all_given r.value.0 r.are.0,
+          r.are.1,
           r.worked,
-          refl,
-        ),
+          text_behind sink old new before (written_file r.made) begun r.written,
+        )
+
+-- ---- what an engine wrote for files
+
+module _ (files : Files) where
+  pub ruled_is_result : (letter key : Text) (place : ℕ) (ls : List Loaded) (h : ReplicaModel) → AreRead files ls
+      → of_union (ruled_of letter key place) ls ≡ Ok h → (value : Text) × IsResult (Ruled place (ruling_on letter key value) files) h
+  ruled_is_result letter key place ls h read e =
+      let u = ok_of (join_of None ls) (λ k. ruled_of letter key place (Replica k)) h e in
+      let ruled = ruled_is letter key place (Some u.0.log) u.0.atoms h u.2 in
+      (ruled.value, (ls, u.0, read, u.1, ap (ruling_for letter key) ruled.at_place, u.2))
+
+  pub sketch_wrote : (cells salt : Option ℕ) (bytes : List ℕ) → AreAsked cells salt
+      → IsOutputOf (sketch_model_of cells salt) sketch_file (λ ls. AreRead files ls) bytes → (noted : InventoryModel) × IsSketchOf (λ ls. AreRead files ls) noted bytes
+  sketch_wrote cells salt bytes asked (ls, sketch, read, e, is) =
+      let u = ok_of (join_of None ls) (λ k. sketch_model_of cells salt (Replica k)) sketch e in
+      let of_noted = sketched_is cells salt (Replica u.0) sketch u.2 in (
+        of_noted.0,
+        (ls, cells, salt, asked, read, ap (λ r. on_ok r (λ k. inventory_model_of (Replica k))) u.1 ∙ of_noted.1, is ∙ ap sketch_file of_noted.2),
       )
 
--- ---- what an engine with one input wrote
-
-pub rule_wrote : (letter key : Text) (place : ℕ) (m : Derivation) (bytes : List ℕ)
-    → IsOutputOf (ruled_of letter key place) written_file (λ b. IsDerived m b) bytes
-    → (value : Text) × IsDerived (Ruled place (ruling_on letter key value) m) bytes
-rule_wrote letter key place m bytes (l, h, read, e, is) =
-    let ruled = ruled_is letter key place (log_named l) (atoms_loaded l) h e in
-    (ruled.value, (l, read, ap (ruling_for letter key) ruled.at_place, (h, e, is)))
-
-pub sketch_wrote : (cells salt : Option ℕ) (to : List ℕ → Type 0) (bytes : List ℕ) → AreAsked cells salt
-    → IsOutputOf (sketch_model_of cells salt) sketch_file to bytes → (noted : InventoryModel) × IsSketchOf to noted bytes
-sketch_wrote cells salt to bytes asked (l, sketch, read, e, is) =
-    let of_noted = sketched_is cells salt l sketch e in
-    (of_noted.0, (l, cells, salt, asked, read, of_noted.1, is ∙ ap sketch_file of_noted.2))
-
--- by the input's log and atoms
-pub text_wrote : (tell : ReplicaModel → Text) (m : Derivation) (text : Text) → IsOutputOf replica_model_of tell (λ b. IsDerived m b) text
-    → IsTextOfFile tell m text
-text_wrote tell m text (l, h, (bytes, made, input), e, is) =
-    let named = held_named (log_named l) (atoms_loaded l) h e in record {
-      bytes = bytes;
-      made = made;
-      held = h;
-      read = record { loaded = l; input = input; named = named.0; atoms = named.1 };
-      written = is;
-    }
+  pub text_wrote : (tell : ReplicaModel → Text) (text : Text) → IsOutputOf replica_model_of tell (λ ls. AreRead files ls) text → IsTextOf tell files text
+  text_wrote tell text (ls, h, read, e, is) =
+      let u = ok_of (join_of None ls) (λ k. replica_model_of (Replica k)) h e in
+      let same : u.0 ≡ h = cc in
+      (h, (ls, read, u.1 ∙ ap Ok same), is)

@@ -1,9 +1,7 @@
 -- The results of `sketch` and `missing-by-sketch` for inputs.
 use Rattle.std.proofs.lemmas.Grind.{common_steps}
-use Rattle.std.proofs.Common.{arith, ◌≡◌, ℕ, List, Option, Some, IfSome, unwrap_or, Result, Ok, Err, true, refl, sym, ap, ◌∙◌, subst}
+use Rattle.std.proofs.Common.{arith, ◌≡◌, ℕ, List, Option, None, Some, IfSome, unwrap_or, Result, Ok, Err, true, refl, sym, ap, ◌∙◌, subst}
 use Rattle.cadf_join.specs.Contents.{Text, Contents}
-use Rattle.cadf_line.specs.Digest.{atom_digest}
-use Rattle.cadf_line.specs.Missing.{missing_by}
 use Rattle.cadf_set.specs.Inventory.{InventoryModel}
 use Rattle.cadf_set.specs.Replica.{ReplicaModel}
 use Rattle.cadf_inventory.specs.InventoryFile.{IsInventory, inventory_digest, DoNotCollide}
@@ -12,13 +10,19 @@ use Rattle.cadf_sketch.specs.Sketches.{SketchModel, sketch_of, own_salt, asked}
 use Rattle.cadf_sketch.proofs.AskedLemmas.{asked_is}
 use Rattle.cadf_sketch.proofs.DigestLemmas.{same_inventory}
 use Rattle.cadf_sketch.proofs.SketchFileLemmas.{sketch-file-tells}
+use Rattle.cadf_sketch.specs.Answers.{IsAnswer}
+use Rattle.cadf_file.specs.File.{IsReplica}
+use Rattle.cadf_line.proofs.Lists.{Some-same}
 use Rattle.cadf_tool.specs.declared.input.Loaded.{Loaded}
+use Rattle.cadf_tool.specs.declared.input.Loaded.TheVariants.{Replica}
 use Rattle.cadf_tool.specs.declared.fault.ToolFault.{ToolFault}
-use Rattle.cadf_tool.specs.Exchange.{IsReadOf, IsSketchReadOf, IsPartByRead}
+use Rattle.cadf_tool.specs.Exchange.{IsSketchReadOf}
 use Rattle.cadf_tool.specs.MissingBy.{inventory_model_of}
-use Rattle.cadf_tool.specs.Sketch.{sketch_of_result, sketch_model_of, IsAnswerOfResult, IsPartBySketch}
-use Rattle.cadf_tool.specs.Told.{log_named, atoms_loaded, under_log, replica_model_of}
+use Rattle.cadf_tool.specs.Join.{join_of}
+use Rattle.cadf_tool.specs.Told.{under_log}
+use Rattle.cadf_tool.specs.Sketch.{sketch_of_result, sketch_model_of, IsAnswerOfResult}
 use Rattle.cadf_tool.proofs.InventoryParts.{Notes, notes, notes_inventory, IsPartBy}
+use Rattle.cadf_tool.proofs.Unions.{ok_of}
 
 -- ---- the inventory that was sketched
 
@@ -40,48 +44,44 @@ cells_asked : (cells : Option ℕ) → IfSome cells (λ n. are_cells n ≡ true)
 cells_asked cells h = grind (arith, common_steps)
 
 -- what was read of a sketch's file has the digest of the inventory that was sketched
-pub sketched_by : (to : List ℕ → Type 0) (noted : InventoryModel) (sketch : SketchModel) → IsSketchReadOf to noted sketch
-    → (other : Loaded) × IsReadOf to other × Notes other noted × IsInventory noted × (sketch.digest ≡ inventory_digest noted)
-sketched_by to noted sketch (bytes, (other, cells, salt, given, read, made, is), input) =
-    let n : Notes other noted = notes other noted made in
-    let inventory = notes_inventory read.0 other noted read.2 n in
+pub sketched_by : (of : List Loaded → Type 0) (noted : InventoryModel) (sketch : SketchModel)
+    → ((ls : List Loaded) (k : ReplicaModel) → of ls → join_of None ls ≡ Ok k → IsReplica k) → IsSketchReadOf of noted sketch
+    → (ls : List Loaded) × (k : ReplicaModel) × of ls × (join_of None ls ≡ Ok k) × Notes (Replica k) noted × IsInventory noted
+    × (sketch.digest ≡ inventory_digest noted)
+sketched_by of noted sketch known (bytes, (ls, cells, salt, given, read, made, is), input) =
+    let u = ok_of (join_of None ls) (λ k. inventory_model_of (Replica k)) noted made in
+    let n : Notes (Replica u.0) noted = notes (Replica u.0) noted u.2 in
+    let inventory = notes_inventory (Replica u.0) noted u.0 (known ls u.0 read u.1) (Some-same u.0.log noted.log n.log) n in
     let many = unwrap_or cells default_cells in
     let same : asked noted many salt ≡ sketch =
     sketch-file-tells (asked noted many salt) sketch (asked_is noted many salt inventory (cells_asked cells given.number) given.odd) input.holds
     (sym is ∙ input.is) in
     let layout = layout_with many (unwrap_or salt (own_salt noted)) in
-    (other, read, n, inventory, ap (λ (s : SketchModel). s.digest) (sym same) ∙ sketched_digest noted layout)
+    (ls, u.0, read, u.1, n, inventory, ap (λ (s : SketchModel). s.digest) (sym same) ∙ sketched_digest noted layout)
 
 -- ---- the delta against a sketch
 
 pub held_named : (o : Option Text) (atoms : Contents) (h : ReplicaModel) → under_log o atoms ≡ Ok h → (o ≡ Some h.log) × (h.atoms ≡ atoms)
 held_named o atoms h e = grind (arith, common_steps)
 
--- a result is the delta of the input against the inventory that was decoded
-pub part_by_read_is : (from : Loaded) (sketch : SketchModel) (read : InventoryModel) (part : ReplicaModel) → IsPartByRead from sketch read part
-    → IsPartBy from read part
-part_by_read_is from sketch read part (held, is, answer, same) =
-    let named = held_named (log_named from) (atoms_loaded from) held is in
-    record {
-      log = named.0 ∙ ap (λ (k : ReplicaModel). Some k.log) (sym answer.missing);
-      atoms = ap (λ (k : ReplicaModel). k.atoms) answer.missing ∙ (λ i. missing_by atom_digest (named.1 i) (same i).digests);
-    }
+-- a result is the delta of the replica against the inventory that was decoded
+module _ (held : ReplicaModel) (sketch : SketchModel) (part : ReplicaModel) (answer : IsAnswer held sketch part) where
+  pub part_by_answer : IsPartBy (Replica held) answer.theirs part
+  part_by_answer = record {
+    log = ap (λ (k : ReplicaModel). Some k.log) (sym answer.missing);
+    atoms = ap (λ (k : ReplicaModel). k.atoms) answer.missing;
+  }
 
--- if the files of both don't collide, the inventory decoded is the one sketched
-pub part_by_sketched : (from : Loaded) (sketch : SketchModel) (sketched read : InventoryModel) (part : ReplicaModel) → IsInventory sketched
-    → sketch.digest ≡ inventory_digest sketched → DoNotCollide read sketched → IsPartByRead from sketch read part → IsPartBy from sketched part
-unfolding inventory_digest
-part_by_sketched from sketch sketched read part inventory is share (held, told, answer, same) =
-    let true_read : answer.theirs ≡ sketched =
-    same_inventory answer.theirs sketched answer.inventory inventory (subst (λ m. DoNotCollide m sketched) (sym same) share) (answer.digest ∙ is) in
-    part_by_read_is from sketch sketched part (held, told, answer, true_read)
+  -- if the files of both don't collide, the inventory decoded is the one sketched
+  pub part_by_sketched : (sketched : InventoryModel) → IsInventory sketched → sketch.digest ≡ inventory_digest sketched
+      → DoNotCollide answer.theirs sketched → IsPartBy (Replica held) sketched part
+  unfolding inventory_digest
+  part_by_sketched sketched inventory is share =
+      subst (λ m. IsPartBy (Replica held) m part)
+      (same_inventory answer.theirs sketched answer.inventory inventory share (answer.digest ∙ is)) part_by_answer
 
--- the result of an engine, with the inventory that was decoded
-pub answer_read : (from : Loaded) (sketch : SketchModel) (part : ReplicaModel) → IsPartBySketch (from, sketch) (Ok part)
-    → (read : InventoryModel) × IsPartByRead from sketch read part
-answer_read from sketch part answer = by (replica_model_of from) refl answer
-  where
-    by : (r : Result ReplicaModel ToolFault) → replica_model_of from ≡ r → IsAnswerOfResult 2 sketch r (Ok part)
-        → (read : InventoryModel) × IsPartByRead from sketch read part
-    by (Ok held) is k = (k.theirs, (held, is, k, refl))
-    by (Err fault) is k = absurd (cc)
+-- the result of an engine, with the replica that was read
+pub answer_of : (number : ℕ) (sketch : SketchModel) (read : Result ReplicaModel ToolFault) (part : ReplicaModel) → IsAnswerOfResult number sketch read (Ok part)
+    → (held : ReplicaModel) × (read ≡ Ok held) × IsAnswer held sketch part
+answer_of number sketch (Ok held) part k = (held, refl, k)
+answer_of number sketch (Err fault) part k = absurd (cc)

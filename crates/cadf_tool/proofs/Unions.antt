@@ -34,6 +34,12 @@ module _ {H M : Type 0} (work : H → Result M ToolFault) where
       at Working h = ap (λ x. on_ok x work) h
       at _ h = h
 
+-- both have a value
+pub ok_of : {A B : Type 0} (before : Result A ToolFault) (work : A → Result B ToolFault) (b : B) → on_ok before work ≡ Ok b
+    → (a : A) × (before ≡ Ok a) × (work a ≡ Ok b)
+ok_of (Ok a) work b e = (a, refl, e)
+ok_of (Err fault) work b e = absurd (cc)
+
 -- ---- a run, by what was read and what was made of it
 
 module _ {A H M W T : Type 0} (sources : Sources A) (read : A → Result H ToolFault) (work : H → Result M ToolFault)

@@ -21,5 +21,6 @@ pub mod Sites
 pub mod Request
 pub mod CountingSink
 pub mod Exchange
+pub mod Folders
 pub mod TwoTexts
 pub mod laws

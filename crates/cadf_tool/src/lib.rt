@@ -6,6 +6,7 @@ mod counting_sink;
 mod engine;
 pub mod exchange;
 mod fault;
+pub mod folders;
 mod input;
 mod inputs;
 mod inventory;

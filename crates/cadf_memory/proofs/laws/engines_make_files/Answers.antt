@@ -3,6 +3,7 @@ use Rattle.cadf_seal.specs.SealFile.{seal_file}
 use Rattle.cadf_tool.specs.MissingBy.{inventory_model_of}
 use Rattle.cadf_tool.specs.Seal.{seal_model_of}
 use Rattle.cadf_tool.specs.Shown.{shown_text, checked_text}
+use Rattle.cadf_tool.specs.laws.Engines.{of_inventory, of_seal}
 use Rattle.cadf_memory.proofs.Exchange.{join_makes, missing_makes, output_makes, missing_by_makes}
 use Rattle.cadf_memory.proofs.Exchange.{sketch_makes, missing_by_sketch_makes, rule_makes, text_makes}
 use Rattle.cadf_memory.proofs.laws.engines_make_files.Goals as goal
@@ -14,7 +15,7 @@ pub returns-clause-missing : goal.returns-clause-missing
 returns-clause-missing c = missing_makes
 
 pub returns-clause-inventory : goal.returns-clause-inventory
-returns-clause-inventory c = output_makes inventory_model_of inventory_file
+returns-clause-inventory c = output_makes inventory_model_of inventory_file of_inventory
 
 pub returns-clause-missing_by : goal.returns-clause-missing_by
 returns-clause-missing_by c = missing_by_makes
@@ -26,7 +27,7 @@ pub returns-clause-missing_by_sketch : goal.returns-clause-missing_by_sketch
 returns-clause-missing_by_sketch c = missing_by_sketch_makes
 
 pub returns-clause-seal : goal.returns-clause-seal
-returns-clause-seal c = output_makes seal_model_of seal_file
+returns-clause-seal c = output_makes seal_model_of seal_file of_seal
 
 pub returns-clause-rule : goal.returns-clause-rule
 returns-clause-rule c = rule_makes

@@ -12,4 +12,4 @@ pub returns-clause-by_sketch : goal.returns-clause-by_sketch
 returns-clause-by_sketch c = part_by_sketch_as_whole
 
 pub returns-clause-brings : goal.returns-clause-brings
-returns-clause-brings c log from to sketched read operands = (refl, refl, refl)
+returns-clause-brings c log means from to files = refl
