@@ -51,6 +51,7 @@ STAGES = [
     }),
     ("before any build", False, {
         "calls": "python3 -m tests.tables.make --check",
+        "headline": "python3 -m tests.docs.headline",
         "mutants": ".ci/mutants --placed",
         "pages": "python3 -m tests.docs.pages",
         "promises": "python3 -m tests.docs.promises",

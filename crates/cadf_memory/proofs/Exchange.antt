@@ -1,8 +1,10 @@
 -- What engines make of derived files in memory.
-use Rattle.std.proofs.Common.{ℕ, List, [], ◌∷◌, map, append-nil, Option, Some, Result, refl, sym, ap, ◌∙◌}
+use Rattle.std.proofs.Common.{◌≡◌, ℕ, List, [], ◌∷◌, map, append-nil, Option, Some, Result, refl, sym, ap, ◌∙◌}
 use Rattle.cadf_join.specs.Contents.{Text}
 use Rattle.cadf_set.specs.Inventory.{InventoryModel}
 use Rattle.cadf_set.specs.Replica.{ReplicaModel}
+use Rattle.cadf_split.specs.declared.unit.Unit.{Unit}
+use Rattle.cadf_split.specs.Split.{split_text}
 use Rattle.cadf_sketch.specs.SketchFile.{sketch_file}
 use Rattle.cadf_tool.specs.WrittenFile.{written_file}
 use Rattle.cadf_tool.specs.declared.input.Loaded.{Loaded}
@@ -20,7 +22,7 @@ use Rattle.cadf_tool.specs.MissingBy.{part_by}
 use Rattle.cadf_tool.specs.Rule.{ruling_on, ruled_of}
 use Rattle.cadf_tool.specs.TwoTexts.{IsTextOf}
 use Rattle.cadf_tool.specs.Exchange.{ByFiles, ByInventory, BySketch, Derivation, Joined, Ruled, Delta, Files, End, File}
-use Rattle.cadf_tool.specs.Exchange.{IsDerived, AreRead, IsOutputOf, IsInventoryOf, IsSketchOf, AreSources}
+use Rattle.cadf_tool.specs.Exchange.{IsResult, IsDerived, AreRead, IsOutputOf, IsInventoryOf, IsSketchOf, AreSources}
 use Rattle.cadf_tool.specs.laws.Engines.{IsOfReplica, of_replica, of_sketch, of_ruled}
 use Rattle.cadf_tool.proofs.SketchParts.{answer_of}
 use Rattle.cadf_tool.proofs.Unions.{join_one}
@@ -46,6 +48,11 @@ are_loaded _ _ h = absurd h
 pub join_makes : (log : Option Text) (files : Files) (inputs : List (List ℕ)) (text : Text) → AreSources files (map unread inputs)
     → IsMadeOfAll (join_of log) written_file inputs text → IsDerived (Joined log files) text
 join_makes log files inputs text given m =
+    (m.made, (m.value, are_read files (map unread inputs) (map ended inputs) m.value given (are_loaded inputs m.value m.input), m.worked), m.told)
+
+pub split_makes : (unit : Unit) (log : Option Text) (files : Files) (inputs : List (List ℕ)) (text : Text) → AreSources files (map unread inputs)
+    → IsMadeOfAll (join_of log) (split_text unit) inputs text → (h : ReplicaModel) × IsResult (Joined log files) h × (text ≡ split_text unit h)
+split_makes unit log files inputs text given m =
     (m.made, (m.value, are_read files (map unread inputs) (map ended inputs) m.value given (are_loaded inputs m.value m.input), m.worked), m.told)
 
 -- a file is a list of one

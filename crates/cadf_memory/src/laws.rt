@@ -1,8 +1,11 @@
 //! Laws of what the engines make of bytes in memory, over the clauses that they ensure. Each law is the contract of a
 //! function with an empty body. What follows for the files is in `cadf_tool::exchange`.
-ghost use Rattle.std.specs.Prelude.{ℕ, Bool, List, map, Option};
+ghost use Rattle.std.specs.Prelude.{◌≡◌, ℕ, Bool, List, map, Option};
 ghost use Rattle.cadf_join.specs.Contents.{Text};
 ghost use Rattle.cadf_set.specs.Inventory.{InventoryModel};
+ghost use Rattle.cadf_set.specs.Replica.{ReplicaModel};
+ghost use Rattle.cadf_split.specs.declared.unit.Unit.{Unit};
+ghost use Rattle.cadf_split.specs.Split.{split_text};
 ghost use Rattle.cadf_inventory.specs.InventoryFile.{inventory_file};
 ghost use Rattle.cadf_sketch.specs.SketchFile.{sketch_file};
 ghost use Rattle.cadf_seal.specs.SealFile.{seal_file};
@@ -18,7 +21,7 @@ ghost use Rattle.cadf_tool.specs.Sketch.{AreAsked, sketch_model_of, IsPartBySket
 ghost use Rattle.cadf_tool.specs.Seal.{seal_model_of};
 ghost use Rattle.cadf_tool.specs.Rule.{ruling_on, ruled_of};
 ghost use Rattle.cadf_tool.specs.Exchange.{ByFiles, ByInventory, BySketch, Derivation, Joined, Ruled, Delta, Files, End, File};
-ghost use Rattle.cadf_tool.specs.Exchange.{IsDerived, AreRead, IsInventoryOf, IsSketchOf, IsSealOf, AreSources};
+ghost use Rattle.cadf_tool.specs.Exchange.{IsResult, IsDerived, AreRead, IsInventoryOf, IsSketchOf, IsSealOf, AreSources};
 ghost use Rattle.cadf_tool.specs.TwoTexts.{IsShown, IsTextOf};
 ghost use Rattle.cadf_memory.specs.Memory.{unread};
 ghost use Rattle.cadf_memory.specs.Made.{IsMadeOf, IsMadeOfTwo, IsMadeOfTwoBy, IsMadeOfAll};
@@ -28,6 +31,9 @@ pub fn engines_make_files()
     ensures join { (log : Option Text) (files : Files) (inputs : List (List ℕ)) (text : Text)
         → AreSources files (map unread inputs) → IsMadeOfAll (join_of log) written_file inputs text
         → IsDerived (Joined log files) text }
+    ensures split { (unit : Unit) (log : Option Text) (files : Files) (inputs : List (List ℕ)) (text : Text)
+        → AreSources files (map unread inputs) → IsMadeOfAll (join_of log) (split_text unit) inputs text
+        → (h : ReplicaModel) × IsResult (Joined log files) h × (text ≡ split_text unit h) }
     ensures missing { (from to : Derivation) (a b : List ℕ) (text : Text) → IsDerived from a → IsDerived to b
         → IsMadeOfTwo input_spec input_spec delta_between written_file a b text
         → IsDerived (Delta ByFiles (File from End) (File to End)) text }

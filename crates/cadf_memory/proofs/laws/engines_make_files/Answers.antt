@@ -4,12 +4,15 @@ use Rattle.cadf_tool.specs.MissingBy.{inventory_model_of}
 use Rattle.cadf_tool.specs.Seal.{seal_model_of}
 use Rattle.cadf_tool.specs.Shown.{shown_text, checked_text}
 use Rattle.cadf_tool.specs.laws.Engines.{of_inventory, of_seal}
-use Rattle.cadf_memory.proofs.Exchange.{join_makes, missing_makes, output_makes, missing_by_makes}
+use Rattle.cadf_memory.proofs.Exchange.{join_makes, split_makes, missing_makes, output_makes, missing_by_makes}
 use Rattle.cadf_memory.proofs.Exchange.{sketch_makes, missing_by_sketch_makes, rule_makes, text_makes}
 use Rattle.cadf_memory.proofs.laws.engines_make_files.Goals as goal
 
 pub returns-clause-join : goal.returns-clause-join
 returns-clause-join c = join_makes
+
+pub returns-clause-split : goal.returns-clause-split
+returns-clause-split c = split_makes
 
 pub returns-clause-missing : goal.returns-clause-missing
 returns-clause-missing c = missing_makes
