@@ -1,45 +1,46 @@
 -- Bytes that a run accepted.
-use Rattle.std.proofs.Common.{◌≡◌, ℕ, List, [], ◌∷◌, map, Some, IfSome, refl, subst}
+use Rattle.std.proofs.Common.{◌≡◌, ℕ, List, [], ◌∷◌, map, take, drop, length, ◌-◌, Some, Ok, IfSome, refl, subst}
 use Rattle.std.proofs.KnownBytes.{Consumes-whole}
-use Rattle.cadf_json.specs.declared.stream.Source.{Ghosts as Source}
-use Rattle.cadf_event.specs.Parts.{EachPair}
 use Rattle.cadf_tool.specs.declared.input.Loaded.{Loaded}
+use Rattle.cadf_tool.specs.declared.request.Request.{Request}
+use Rattle.cadf_tool.specs.declared.request.Request.TheVariants as ask
 use Rattle.cadf_tool.specs.Input.{IsInput}
-use Rattle.cadf_tool.specs.Inputs.{source_state}
-use Rattle.cadf_tool.specs.Run.{transition_of, input_spec, IsReadAs, AreLoaded}
+use Rattle.cadf_tool.specs.Inputs.{SourceState}
+use Rattle.cadf_tool.specs.Run.{input_spec, IsReadAs, AreLoaded}
+use Rattle.cadf_tool.specs.Request.{task}
+use Rattle.cadf_tool.specs.Requested.{AreOutside, AreAccepted}
 use Rattle.cadf_tool.specs.Exchange.{externals, AreSources}
 use Rattle.cadf_tool.proofs.LoadedLists.{head_same, tail_same, no_tail, no_head}
 
--- ---- what was read of bytes that are known
+input_read : (o n : SourceState) (bytes : List ℕ) (l : Loaded) → o.left ≡ Some bytes → IsReadAs input_spec (record { old = o; new = n }) l → IsInput bytes l
+input_read o n bytes l left ((given, (consumed, at_end, encodes)), failures) =
+    subst (λ x. IfSome x (λ b. IsInput b l)) left (Consumes-whole o.left n.left given (λ b. IsInput b l) consumed at_end encodes)
 
-module _ {S : Type 0} (source : Source S) where
-  pub input_read : (s r : S) (bytes : List ℕ) (l : Loaded) → source.left s ≡ Some bytes → IsReadAs input_spec (transition_of source s r) l → IsInput bytes l
-  input_read s r bytes l left ((given, (consumed, at_end, encodes)), failures) =
-      subst (λ o. IfSome o (λ b. IsInput b l)) left
-      (Consumes-whole (source.left s) (source.left r) given (λ b. IsInput b l) consumed at_end encodes)
+outside : (os ns : List SourceState) (files : List (List ℕ)) (ls : List Loaded) → map (λ (s : SourceState). s.left) os ≡ map Some files
+    → AreLoaded os ns ls → AreSources (externals files ls) os
+outside [] [] [] [] e h = tt
+outside [] [] (b ∷ bs) ls e h = absurd (no_tail (Some b) (map Some bs) e)
+outside (o ∷ os) (n ∷ ns) [] (l ∷ ls) e h = absurd (no_head o.left (map (λ (s : SourceState). s.left) os) e)
+outside (o ∷ os) (n ∷ ns) (b ∷ bs) (l ∷ ls) e h =
+    let lefts = map (λ (s : SourceState). s.left) os in
+    let left = head_same o.left (Some b) lefts (map Some bs) e in
+    ((b, left, (refl, input_read o n b l left h.0)), outside os ns bs ls (tail_same o.left (Some b) lefts (map Some bs) e) h.1)
+outside _ _ _ _ e h = absurd h
 
-  pub inputs_read : (ss rs : List S) (files : List (List ℕ)) (ls : List Loaded) → map source.left ss ≡ map Some files
-      → AreLoaded (map (source_state source) ss) (map (source_state source) rs) ls → EachPair IsInput files ls
-  inputs_read [] [] [] [] e h = tt
-  inputs_read [] [] (b ∷ bs) ls e h = absurd (no_tail (Some b) (map Some bs) e)
-  inputs_read (s ∷ ss) (r ∷ rs) [] (l ∷ ls) e h = absurd (no_head (source.left s) (map source.left ss) e)
-  inputs_read (s ∷ ss) (r ∷ rs) (b ∷ bs) (l ∷ ls) e h = (
-    input_read s r b l (head_same (source.left s) (Some b) (map source.left ss) (map Some bs) e) h.0,
-    inputs_read ss rs bs ls (tail_same (source.left s) (Some b) (map source.left ss) (map Some bs) e) h.1,
-  )
-  inputs_read _ _ _ _ e h = absurd h
+all_outside : (os ns : List SourceState) (ls : List Loaded) → AreLoaded os ns ls → AreOutside os
+all_outside os ns ls are given left = (ls, outside os ns given ls left are)
 
-  pub externals_given : (ss : List S) (files : List (List ℕ)) (ls : List Loaded) → map source.left ss ≡ map Some files
-      → EachPair IsInput files ls → AreSources (externals files ls) (map (source_state source) ss)
-  externals_given [] [] [] e h = tt
-  externals_given [] (b ∷ bs) ls e h = absurd (no_tail (Some b) (map Some bs) e)
-  externals_given (s ∷ ss) [] ls e h = absurd (no_head (source.left s) (map source.left ss) e)
-  externals_given (s ∷ ss) (b ∷ bs) (l ∷ ls) e h = (
-    (b, head_same (source.left s) (Some b) (map source.left ss) (map Some bs) e, (refl, h.0)),
-    externals_given ss bs ls (tail_same (source.left s) (Some b) (map source.left ss) (map Some bs) e) h.1,
-  )
-  externals_given _ _ _ e h = absurd h
-
-  pub externals_read : (ss rs : List S) (files : List (List ℕ)) (ls : List Loaded) → map source.left ss ≡ map Some files
-      → AreLoaded (map (source_state source) ss) (map (source_state source) rs) ls → AreSources (externals files ls) (map (source_state source) ss)
-  externals_read ss rs files ls e h = externals_given ss files ls e (inputs_read ss rs files ls e h)
+pub accepted : (q : Request) (old new : List SourceState) (value : (task q).Read) → ((task q).sources old new).are value → AreAccepted q old
+accepted (ask.Join log) old new ls are = all_outside old new ls are
+accepted (ask.Split unit log) old new ls are = all_outside old new ls are
+accepted (ask.Missing from) old new (ls, ks) are =
+    (all_outside (take from old) (take from new) ls are.0, all_outside (drop from old) (drop from new) ks are.1)
+accepted ask.MissingBy old new (ls, noted) are = let n = length old - 1 in all_outside (take n old) (take n new) ls are.0
+accepted ask.Inventory old new ls are = all_outside old new ls are
+accepted (ask.Sketch cells salt) old new ls are = all_outside old new ls are
+accepted ask.MissingBySketch old new (ls, sketch) are = let n = length old - 1 in all_outside (take n old) (take n new) ls are.0
+accepted ask.Seal old new ls are = all_outside old new ls are
+accepted (ask.Rule letter key place) old new ls are = all_outside old new ls are
+accepted (ask.Show conflicts) old new ls are = all_outside old new ls are
+accepted ask.Check old new ls are = all_outside old new ls are
+accepted _ old new value are = tt

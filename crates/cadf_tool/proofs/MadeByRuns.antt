@@ -1,29 +1,36 @@
 -- What engines write for derived files.
-use Rattle.std.proofs.Common.{◌≡◌, ℕ, List, map, ◌++◌, Option, None, Some, Ok, Err, Result, refl, ap, ◌∙◌, subst}
+use Rattle.std.proofs.Common.{◌≡◌, ◌+◌, ◌-◌, ℕ, List, ◌++◌, take, drop, length, encode_utf8, Option, None, Some, Ok, Err, Result, refl, ap, ◌∙◌, subst}
 use Rattle.std.specs.Io.KnownBytes.{Appends}
-use Rattle.cadf_json.specs.declared.stream.Source.{Ghosts as Source}
 use Rattle.cadf_json.specs.declared.stream.Sink.{Ghosts as Sink}
 use Rattle.cadf_join.specs.Contents.{Text}
+use Rattle.cadf_inventory.specs.InventoryFile.{inventory_file}
+use Rattle.cadf_seal.specs.SealFile.{seal_file}
 use Rattle.cadf_set.specs.Inventory.{InventoryModel}
 use Rattle.cadf_set.specs.Replica.{ReplicaModel}
 use Rattle.cadf_sketch.specs.SketchFile.{sketch_file}
-use Rattle.cadf_tool.specs.WrittenFile.{written_file}
 use Rattle.cadf_tool.specs.declared.input.Loaded.{Loaded}
 use Rattle.cadf_tool.specs.declared.input.Loaded.TheVariants.{Replica}
 use Rattle.cadf_tool.specs.declared.fault.ToolFault.{ToolFault}
+use Rattle.cadf_tool.specs.declared.request.Request.{Request}
+use Rattle.cadf_tool.specs.declared.request.Request.TheVariants as ask
 use Rattle.cadf_tool.specs.Told.{replica_model_of}
-use Rattle.cadf_tool.specs.Inputs.{source_state}
-use Rattle.cadf_tool.specs.Run.{Sources, both, all, AreLoaded, IsExpectedOfBy, IsAnswer, IsRun, IsRunBy}
+use Rattle.cadf_tool.specs.Inputs.{SourceState}
+use Rattle.cadf_tool.specs.ModelInput.{inventory_spec, sketch_spec}
+use Rattle.cadf_tool.specs.Run.{Sources, AreLoaded, IsExpectedOfBy, IsAnswer, IsRunBy}
+use Rattle.cadf_tool.specs.Request.{task, first_state}
+use Rattle.cadf_tool.specs.Requested.{IsAnswered}
+use Rattle.cadf_tool.specs.Seal.{seal_model_of}
+use Rattle.cadf_tool.specs.Shown.{shown_text, checked_text}
 use Rattle.cadf_tool.specs.Sketch.{AreAsked, sketch_model_of}
 use Rattle.cadf_tool.specs.Join.{join_of, on_ok, of_union}
 use Rattle.cadf_tool.specs.MissingBy.{inventory_model_of}
 use Rattle.cadf_tool.specs.Rule.{ruling_on, ruling_for, ruled_of}
 use Rattle.cadf_tool.specs.TwoTexts.{IsTextOf}
-use Rattle.cadf_tool.specs.Exchange.{Ruled, Files, IsResult, AreRead, IsOutputOf, IsSketchOf, AreSources}
+use Rattle.cadf_tool.specs.Exchange.{Ruled, Files, IsResult, AreRead, IsOutputOf, IsInventoryOf, IsSketchOf, AreSources}
 use Rattle.cadf_tool.proofs.RulingAdded.{ruled_is}
-use Rattle.cadf_tool.proofs.SketchParts.{sketched_is}
+use Rattle.cadf_tool.proofs.SketchParts.{sketched_is, answer_of}
 use Rattle.cadf_tool.proofs.Unions.{ok_of}
-use Rattle.cadf_tool.proofs.ExchangeLaws.{are_read, written_behind}
+use Rattle.cadf_tool.proofs.ExchangeLaws.{read_of, are_read, written_behind}
 
 -- ---- a run that returned Ok
 
@@ -53,46 +60,6 @@ pub text_behind : {W : Type 0} (sink : Sink W) (old new : W) (before bytes : Lis
     → Appends (sink.written old) (sink.written new) bytes → sink.written new ≡ Some (before ++ bytes)
 text_behind sink old new before bytes begun w = written_behind before (sink.written new) bytes (subst (λ o. Appends o (sink.written new) bytes) begun w)
 
--- ---- the engines
-
-module _ {S W T : Type 0} (source : Source S) (sink : Sink W) (old new : W) (t : T) (before : List ℕ)
-    (begun : sink.written old ≡ Some before) where
-  abbrev pub Wrote : Text → Type 0
-  Wrote text = sink.written new ≡ Some (before ++ text)
-
-  module _ (files : Files) (inputs after : List S) (given : AreSources files (map (source_state source) inputs)) where
-    all_given : (ls : List Loaded) → AreLoaded (map (source_state source) inputs) (map (source_state source) after) ls → AreRead files ls
-    all_given ls are = are_read files (map (source_state source) inputs) (map (source_state source) after) ls given are
-
-    -- an engine whose work is a function of a list of inputs
-    pub list_makes : {M : Type 0} (work : List Loaded → Result M ToolFault) (tell : M → Text)
-        → IsRun (all source inputs after) work tell sink old new (Ok t)
-        → (ls : List Loaded) × (made : M) × AreRead files ls × (work ls ≡ Ok made) × Wrote (tell made)
-    list_makes work tell run =
-        let r = run_ok _ _ _ _ _ _ _ run in
-        (r.value, r.made, all_given r.value r.are, r.worked, text_behind sink old new before (tell r.made) begun r.written)
-
-    pub output_makes : {M : Type 0} (work : Loaded → Result M ToolFault) (tell : M → Text)
-        → IsRun (all source inputs after) (of_union work) tell sink old new (Ok t)
-        → (text : Text) × Wrote text × IsOutputOf work tell (λ ls. AreRead files ls) text
-    output_makes work tell run =
-        let r = list_makes (of_union work) tell run in (tell r.1, r.4, (r.0, r.1, r.2, r.3, refl))
-
-    -- an engine that works on such a list and on what is read of a second source, or of a second list
-    pub beside_makes : {B : Type 0} (second : Sources B) (work : List Loaded × B → Result ReplicaModel ToolFault → Type 0)
-        → IsRunBy (both (all source inputs after) second) work written_file sink old new (Ok t)
-        → (ls : List Loaded) × (b : B) × (h : ReplicaModel) × AreRead files ls × second.are b × work (ls, b) (Ok h) × Wrote (written_file h)
-    beside_makes second work run =
-        let r = run_ok _ _ _ _ _ _ _ run in (
-          r.value.0,
-          r.value.1,
-          r.made,
-          all_given r.value.0 r.are.0,
-          r.are.1,
-          r.worked,
-          text_behind sink old new before (written_file r.made) begun r.written,
-        )
-
 -- ---- what an engine wrote for files
 
 module _ (files : Files) where
@@ -117,3 +84,59 @@ module _ (files : Files) where
       let u = ok_of (join_of None ls) (λ k. replica_model_of (Replica k)) h e in
       let same : u.0 ≡ h = cc in
       (h, (ls, read, u.1 ∙ ap Ok same), is)
+
+-- ---- what a run of a request made
+
+-- the work of an engine on the union of files
+output_of : {M : Type 0} (work : Loaded → Result M ToolFault) (tell : M → Text) (old new : List SourceState) (ls : List Loaded) (made : M)
+    → AreLoaded old new ls → of_union work ls ≡ Ok made → (files : Files) → AreSources files old → IsOutputOf work tell (λ ks. AreRead files ks) (tell made)
+output_of work tell old new ls made are e files given = (ls, made, are_read files old new ls given are, e, refl)
+
+pub answered : (q : Request) (old new : List SourceState) (value : (task q).Read) (made : (task q).Made) → ((task q).sources old new).are value
+    → (task q).work value (Ok made) → IsAnswered q old ((task q).tell made)
+answered (ask.Join log) old new ls h are e = λ files given. (h, (ls, are_read files old new ls given are, e), refl)
+answered (ask.Split unit log) old new ls h are e = λ files given. (h, (ls, are_read files old new ls given are, e), refl)
+answered (ask.Missing from) old new (ls, ks) h are e = λ froms tos f t.
+    (h, (ls, ks, are_read froms (take from old) (take from new) ls f are.0, are_read tos (drop from old) (drop from new) ks t are.1, e), refl)
+answered ask.MissingBy old new (ls, noted) h are e = λ froms tos f t.
+    let n = length old - 1 in (
+      h,
+      (
+        ls,
+        noted,
+        are_read froms (take n old) (take n new) ls f are.0,
+        read_of inventory_spec (IsInventoryOf (λ ks. AreRead tos ks)) (first_state (drop n old)) (first_state (drop n new)) noted t are.1,
+        e,
+      ),
+      refl,
+    )
+answered ask.Inventory old new ls made are e = output_of inventory_model_of inventory_file old new ls made are e
+answered (ask.Sketch cells salt) old new ls made are e = λ asked files given.
+    sketch_wrote files cells salt (sketch_file made) asked (output_of (sketch_model_of cells salt) sketch_file old new ls made are e files given)
+answered ask.MissingBySketch old new (ls, sketch) h are e = λ froms tos sketched f t.
+    let n = length old - 1 in
+    let a = answer_of (length ls + 1) sketch (join_of None ls) h e in (
+      a.2.theirs,
+      (
+        h,
+        (
+          ls,
+          a.0,
+          sketch,
+          are_read froms (take n old) (take n new) ls f are.0,
+          a.1,
+          read_of sketch_spec (IsSketchOf (λ ks. AreRead tos ks) sketched) (first_state (drop n old)) (first_state (drop n new)) sketch t are.1,
+          a.2,
+          refl,
+        ),
+        refl,
+      ),
+    )
+answered ask.Seal old new ls made are e = output_of seal_model_of seal_file old new ls made are e
+answered (ask.Rule letter key place) old new ls h are e = λ files given.
+    let ruled = ruled_is_result files (encode_utf8 letter) key place ls h (are_read files old new ls given are) e in (ruled.0, (h, ruled.1, refl))
+answered (ask.Show conflicts) old new ls h are e = λ files given.
+    text_wrote files (shown_text conflicts) (shown_text conflicts h) (output_of replica_model_of (shown_text conflicts) old new ls h are e files given)
+answered ask.Check old new ls h are e = λ files given.
+    text_wrote files checked_text (checked_text h) (output_of replica_model_of checked_text old new ls h are e files given)
+answered _ old new value made are e = tt

@@ -23,4 +23,5 @@ pub mod CountingSink
 pub mod Exchange
 pub mod Folders
 pub mod TwoTexts
+pub mod Requested
 pub mod laws
