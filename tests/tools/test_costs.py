@@ -176,7 +176,7 @@ def test_an_event_whose_texts_are_long_is_left_out(tmp_path, cadf, tools, tool, 
     assert found.status == 5 and len(re.findall(SAID, found.error.decode())) == 1, found
     if tool == "cadf-events":
         assert len(found.output.splitlines()) == DAYS * EVENTS and b'"id":"long"' not in found.output
-        none = place.run(tool, "--from=2024-03-05", "site/" if is_folder else "file.cadf", **limits)
+        none = place.run(tool, "--since=2024-03-05", "site/" if is_folder else "file.cadf", **limits)
         assert none.status == 0 and none.error == b""  # it is of no event of the range
     else:
         assert b"Left out: 1 events whose texts are long." in found.output and b'"long"' not in found.output

@@ -162,15 +162,16 @@ def test_what_a_terminal_gets(tmp_path, words):
     call = [os.path.join(TOP, "tools", words[0]), *words[1:], "facts.proof" if "--verify" in words else "facts.json"]
     options = {"cwd": tmp_path, "env": dict(os.environ, CADF=cadf), "stdin": subprocess.DEVNULL}
     ours, theirs = pty.openpty()
-    with subprocess.Popen(call, stdout=theirs, stderr=theirs, **options) as child:
+    with subprocess.Popen(call, stdout=theirs, stderr=subprocess.PIPE, **options) as child:  # on a busy machine progress would be on a terminal too
         os.close(theirs)
         data = b""
         with contextlib.suppress(OSError):  # until nobody has the terminal any more
             while True:
                 data += os.read(ours, 4096)
+        said = child.stderr.read()
     os.close(ours)
     text = data.decode().replace("\r\n", "")
-    assert text.isprintable() and child.returncode in (0, 5), text
+    assert text.isprintable() and said.decode().replace("\n", "").isprintable() and child.returncode in (0, 5), (text, said)
     piped = subprocess.run(call, stdout=subprocess.PIPE, stderr=subprocess.PIPE, check=False, **options)
     if words[0] == "cadf-events" or "--verify" in words:
         assert all(each.encode() in piped.stdout for each in SHOWN[3:]) and all("\\u%04x" % ord(each) in text for each in SHOWN[3:])
