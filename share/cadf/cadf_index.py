@@ -38,6 +38,7 @@ IS_COUNTED = "(second IS NOT NULL AND initiator AND target AND others AND key NO
 IS_ODD = "NOT " + IS_COUNTED
 KEY_BYTES, LONGEST_TEXT, LARGEST_BODY = 16, 2 ** 12, 2 ** 24
 ROWS_AT_ONCE, PATTERNS_AT_ONCE = 2 ** 14, 64
+DECODE, ENCODE = json.JSONDecoder().decode, json.JSONEncoder(ensure_ascii=False).encode  # made once: that takes as long as a use
 MALFORMED = (*UNREADABLE, AttributeError, KeyError, TypeError)
 
 
@@ -75,7 +76,7 @@ def bodies_in(files):
 
 def value_in(line):
     """The value whose canonical text a node's line has."""
-    return json.loads(json.loads(line)[2])
+    return DECODE(DECODE(line.decode())[2])
 
 
 def row_of(body, steps):
@@ -84,7 +85,7 @@ def row_of(body, steps):
         if sum(map(len, (body, *steps))) <= LARGEST_BODY:
             event = value_in(body)
             found = traits(event, map(value_in, steps))
-            texts = [json.dumps(each, ensure_ascii=False) for each in (found.pop("initiator"), found.pop("target"), found)]
+            texts = [ENCODE(each) for each in (found.pop("initiator"), found.pop("target"), found)]
             "".join(texts).encode()
             return (*divmod(instant(event["eventTime"]), SECOND), *texts)
     return None, 0, None, None, None
@@ -198,9 +199,9 @@ class EventIndex:
         """Prepares what is asked. The identifiers of a question are left to who reads the files, unless all are whole."""
         self.where, self.words = ["1"], []
         for column in COLUMNS:
-            kinds = [kind for kind in question.patterns if (kind if kind in ("id", *COLUMNS) else "others") == column]
-            if kinds:
-                self.table(column, self.texts_of(column, question, kinds[0]))
+            kind = next((kind for kind in question.patterns if (kind if kind in ("id", *COLUMNS) else "others") == column), None)
+            if kind:
+                self.table(column, self.texts_of(column, question, kind))
         if question.has_ids and "id" in question.patterns:
             self.table("key", (key_of(spelled(each.parts[0])) for each in question.patterns["id"]))
         for sign, at in ((">=", question.limits.first), ("<", question.limits.until)):
@@ -241,7 +242,8 @@ class EventIndex:
     def counts(self, by):
         """How many events answer, of those that can be counted, by an hour or a day, or by what they have for a pattern of this kind first."""
         column, counts = by if by in COLUMNS else "second / %d" % LENGTHS[by] if by in LENGTHS else "others", collections.Counter()
-        for number, count in self.run("SELECT %s, count(*) FROM bodies WHERE %s AND %s GROUP BY 1" % (column, " AND ".join(self.where), IS_COUNTED), self.words):
+        tests = " AND ".join([*self.where, IS_COUNTED])
+        for number, count in self.run("SELECT %s, count(*) FROM bodies WHERE %s GROUP BY 1" % (column, tests), self.words):
             if by in LENGTHS:
                 counts[utc(number * LENGTHS[by] * SECOND)] = count
             else:
