@@ -112,7 +112,7 @@ def test_file_and_folder_show_the_same(cadf, tmp_path, seed):
     ("opened(windows.ruled(window))", "opened([])"),
     ("        return name, own.open, own.long", "        return name, 0, own.long"),
     ("self.of([*facts, *rulings])", "self.of([*facts])"),
-    (", *(self.of_facts(name, inputs) for name in facts),", ","),
+    (", *(self.of_facts(name, inputs) for name in windows.facts),", ","),
     ("utc(limits.until - 1)[:length]", "utc(limits.until - 1)[:length - 1]"),
     ("            if len(parts) > 1:", "            if len(parts) > 2:"),
     ("    return at, identifier, line, bodies", '    return event["eventTime"], identifier, line, bodies'),
