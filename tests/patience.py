@@ -6,6 +6,7 @@ import functools
 import time
 
 LOOPS, SECONDS = 10 ** 6, 0.04  # a loop of so many turns takes so long on an idle processor of 2.5 GHz
+MOST = 8  # times as long as there, so that what hangs ends while somebody waits
 
 
 def loop():
@@ -18,8 +19,8 @@ def loop():
 
 @functools.lru_cache(None)
 def slowness():
-    """How many times as long as on that processor the loop takes, measured when it is asked for first; at least 1."""
-    return max(1.0, max(loop() for _ in range(3)) / SECONDS)
+    """How many times as long as on that processor the loop takes, measured when it is asked for first: from 1 to MOST."""
+    return min(MOST, max(1.0, sorted(loop() for _ in range(3))[1] / SECONDS))
 
 
 def seconds(limit):

@@ -6,13 +6,15 @@ import socket
 import subprocess
 import time
 
+from tests import patience
+
 try:
     import amqp
 except ImportError:
     amqp = None
 
 PROGRAMS = "/usr/lib/rabbitmq/bin"
-SECONDS = 120
+SECONDS = 120  # on an idle machine
 SETTINGS = """loopback_users.guest = true
 listeners.tcp.1 = 127.0.0.1:%d
 disk_free_limit.absolute = 1MB
@@ -92,7 +94,7 @@ class Broker:
         if self.epmd is None:
             self.epmd = self.process("epmd", "-address", "127.0.0.1", "-port", str(self.epmd_port))
         self.server = self.process(os.path.join(PROGRAMS, "rabbitmq-server"))
-        end = time.monotonic() + SECONDS
+        end = time.monotonic() + patience.seconds(SECONDS)
         while not self.answers():
             if self.server.poll() is not None or time.monotonic() > end:
                 with open(os.path.join(self.folder, "said"), encoding="utf-8", errors="replace") as said:
@@ -126,7 +128,7 @@ class Broker:
     def stop(self):
         """Ends the broker in order. The next start goes on with its data."""
         self.server.send_signal(signal.SIGTERM)
-        self.server.wait(SECONDS)
+        self.server.wait(patience.seconds(SECONDS))
 
     def end(self):
         """Ends all that was started."""
