@@ -14,6 +14,7 @@ import pytest
 from tests import TOP, conftest, skips, text_of, tracked
 from tests.conftest import SLOW
 from tests.machine import side_by_side
+from tests.tools.programs import loaded
 
 CODE = re.compile(r"`([^`]+)`")
 STEPS = runpy.run_path(os.path.join(TOP, ".ci", "steps.py"))
@@ -109,6 +110,17 @@ def test_a_program_that_is_not_there(capsys):
     assert "/no/such/program can't be started: No such file or directory" in lines
     assert {line.split()[0]: line[-6:] for line in lines if line.endswith(("FAILED: status 127", "  passed"))} == {"first": "us 127", "second": "passed"}
     assert lines[-1].startswith("1 passed, 1 failed")
+
+
+@pytest.mark.needs("git")
+def test_quick_without_pytest(monkeypatch):
+    """It runs nothing, and says what to install: a thousand tests are no skip."""
+    monkeypatch.syspath_prepend(os.path.join(TOP, ".ci"))
+    quick = loaded(os.path.join(TOP, ".ci", "quick"))
+    monkeypatch.setattr(quick.steps, "pytest_words", lambda: None)
+    monkeypatch.setattr("sys.argv", ["quick"])
+    with pytest.raises(SystemExit, match="^quick: pytest isn't there.*: sudo apt-get install python3-pytest python3-pytest-xdist python3-pytest-timeout$"):
+        quick.main()
 
 
 @pytest.mark.parametrize("said, allowed, may_skip, wanted", [
