@@ -884,7 +884,7 @@ def test_wrong_copy_is_caught(cadf, tmp_path, check, words, texts):
 @others.needed
 @pytest.mark.parametrize("check, words, texts", [
     pytest.param(test_planted, ["a folder", "taking"], ["raise Fault(wanted)\n        return file", "pass\n        return file"], id="uses what it finds"),
-    pytest.param(test_planted, ["a link", "taking"], ["flags | os.O_NOFOLLOW | os.O_NONBLOCK", "flags | os.O_NONBLOCK"], id="follows links"),
+    pytest.param(test_planted, ["a link", "taking"], ["flags | os.O_NOFOLLOW | os.O_NONBLOCK, 0o600", "flags | os.O_NONBLOCK, 0o600"], id="follows links"),
     pytest.param(test_spool_that_others_may_change, [0o777, others.CALLER, b"chmod +t"], ["if found.st_mode & 0o022 and not", "if False and not"],
                  id="works in any spool"),
     pytest.param(test_sender_that_writes_on, [], [
