@@ -1,6 +1,7 @@
 //! Parses the words other than files: names, numbers and letters.
 ghost use Rattle.std.specs.Prelude.{◌≡◌, ℕ, is_ok, IfOk, IfErr, MatchOption, encode_utf8};
 ghost use Rattle.cadf_line.specs.RulingTexts.{is_value_letter};
+ghost use Rattle.cadf.specs.Asked.{given, IsGivenNumber};
 ghost use Rattle.cadf.specs.Given.{begins_plainly, IsArgumentNumber};
 
 use cadf_arguments::{
@@ -11,8 +12,13 @@ use cadf_tool::{Cells, Salt};
 use std::alloc::Global;
 
 /// Reads the identifier of the log, if one is given. `LogName`: it is no name.
-pub(crate) fn log_given(alloc: Global, word: Option<&str>) -> Result<Option<Name>, ArgumentFault> {
-    word.map(|word| read_log(alloc, word)).transpose()
+pub(crate) fn log_given(alloc: Global, word: Option<&str>) -> Result<Option<Name>, ArgumentFault>
+    ensures { IfOk result (λ name. name ≡ given word.entry) }
+{
+    match word {
+        None => Ok(None),
+        Some(word) => Ok(Some(read_log(alloc, word)?)),
+    }
 }
 
 /// Returns whether the word begins with neither a sign nor a zero.
@@ -36,7 +42,9 @@ fn number_given(word: &str) -> Option<u64>
 }
 
 /// Reads the number of sites of a rehearsal. `Sites`: it isn't 1 to 64.
-pub(crate) fn sites_given(word: &str) -> Result<usize, ArgumentFault> {
+pub(crate) fn sites_given(word: &str) -> Result<usize, ArgumentFault>
+    ensures { IfOk result (IsArgumentNumber word.now) }
+{
     check_sites(number_given(word).ok_or(ArgumentFault::Sites)?)
 }
 
@@ -53,16 +61,28 @@ pub(crate) fn letter_given(word: &str) -> Result<char, ArgumentFault>
 }
 
 /// Reads the place of a value, from 1. `Place`: it isn't 1 to 999,999,999.
-pub(crate) fn place_given(word: &str) -> Result<u64, ArgumentFault> {
+pub(crate) fn place_given(word: &str) -> Result<u64, ArgumentFault>
+    ensures { IfOk result (IsArgumentNumber word.now) }
+{
     check_place(number_given(word).ok_or(ArgumentFault::Place)?)
 }
 
-/// Reads the number of cells of a sketch. `Cells`: it isn't a multiple of 3 from 3 to 12,582,912.
-pub(crate) fn cells_given(word: &str) -> Result<Cells, ArgumentFault> {
-    check_cells(number_given(word).ok_or(ArgumentFault::Cells)?)
+/// Reads the number of cells of a sketch, if one is given. `Cells`: it isn't a multiple of 3 from 3 to 12,582,912.
+pub(crate) fn cells_given(word: Option<&str>) -> Result<Option<Cells>, ArgumentFault>
+    ensures { IfOk result (IsGivenNumber word.entry) }
+{
+    match word {
+        None => Ok(None),
+        Some(word) => Ok(Some(check_cells(number_given(word).ok_or(ArgumentFault::Cells)?)?)),
+    }
 }
 
-/// Reads the salt of a sketch. `Salt`: it isn't an odd number below 2^64.
-pub(crate) fn salt_given(word: &str) -> Result<Salt, ArgumentFault> {
-    check_salt(number_given(word).ok_or(ArgumentFault::Salt)?)
+/// Reads the salt of a sketch, if one is given. `Salt`: it isn't an odd number below 2^64.
+pub(crate) fn salt_given(word: Option<&str>) -> Result<Option<Salt>, ArgumentFault>
+    ensures { IfOk result (IsGivenNumber word.entry) }
+{
+    match word {
+        None => Ok(None),
+        Some(word) => Ok(Some(check_salt(number_given(word).ok_or(ArgumentFault::Salt)?)?)),
+    }
 }

@@ -5,11 +5,12 @@ ghost use Rattle.std.specs.Prelude.{◌≡◌, ◌≢◌, [], IfOk, IfErr};
 ghost use Rattle.std.specs.Io.KnownBytes.{Keeps};
 ghost use Rattle.std.specs.Io.Buffered.{writer_buffer, writer_contents};
 
-mod engines;
+mod asked;
 mod given;
+mod runner;
 mod stop;
 
-use crate::engines::Runner;
+use crate::runner::Runner;
 use crate::stop::{REFUSED, Stop, report};
 use cadf_json::FromStd;
 use cadf_tool::{CountingSink, FILE_LIMIT, OverLimit, ToolFault};

@@ -1,5 +1,5 @@
 -- Bytes that a run accepted.
-use Rattle.std.proofs.Common.{◌≡◌, ℕ, List, [], ◌∷◌, map, take, drop, length, ◌-◌, Some, Ok, IfSome, refl, subst}
+use Rattle.std.proofs.Common.{◌≡◌, ℕ, List, [], ◌∷◌, map, take, drop, length, ◌-◌, Some, IfSome, refl, subst}
 use Rattle.std.proofs.KnownBytes.{Consumes-whole}
 use Rattle.cadf_tool.specs.declared.input.Loaded.{Loaded}
 use Rattle.cadf_tool.specs.declared.request.Request.{Request}

@@ -7,7 +7,7 @@ use Rattle.cadf_join.specs.laws.Contents.{texts_total, texts_same}
 use Rattle.cadf_join.specs.laws.Sets as laws
 use Rattle.cadf_join.proofs.Members as members
 use Rattle.cadf_atom.specs.Contributions.{Contribution, ARuling, atoms, union_all}
-use Rattle.cadf_set.proofs.History.{contains_listed, listed_contains, in_union_all, of_union_all, listed_within}
+use Rattle.cadf_set.proofs.History.{contains_listed, listed_contains, listed_within}
 use Rattle.cadf_tool.specs.declared.input.Loaded.{Loaded}
 use Rattle.cadf_tool.specs.Told.{atoms_loaded}
 use Rattle.cadf_tool.specs.Exchange.{Derivation, External, Empty, Joined, Kept, Ruled, Delta, Files, End, File, contribution_of}

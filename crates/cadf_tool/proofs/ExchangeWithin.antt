@@ -1,5 +1,5 @@
 -- Whatever was run, a file has its log, and no atoms but those that it brought.
-use Rattle.std.proofs.Common.{◌≡◌, ℕ, Bool, true, List, [], ◌∷◌, Option, None, Some, Ok, refl, sym, ap, ◌∙◌, subst}
+use Rattle.std.proofs.Common.{◌≡◌, ℕ, Bool, List, [], ◌∷◌, Option, None, Some, Ok, refl, sym, ap, ◌∙◌, subst}
 use Rattle.std.specs.Option.{option_or}
 use Rattle.cadf_join.specs.Contents.{Text, Texts, Contents, Has, IsWithin}
 use Rattle.cadf_join.specs.Sets as set
@@ -8,7 +8,7 @@ use Rattle.cadf_join.specs.laws.Sets as laws
 use Rattle.cadf_join.proofs.Members as members
 use Rattle.cadf_line.specs.Atoms.{carrier}
 use Rattle.cadf_atom.specs.AtomSets.{IsReplicaSet}
-use Rattle.cadf_atom.specs.Contributions.{ARuling, taken, one_atom}
+use Rattle.cadf_atom.specs.Contributions.{one_atom}
 use Rattle.cadf_line.specs.RulingTexts.{ruling_atom}
 use Rattle.cadf_set.specs.Replica.{ReplicaModel}
 use Rattle.cadf_set.proofs.ContributionLaws.{kept_empty, kept_union}

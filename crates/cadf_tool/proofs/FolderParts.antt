@@ -1,8 +1,7 @@
 -- Parts of sets as files of a folder.
-use Rattle.std.proofs.lemmas.Grind.{common_steps, flat_map-append}
-use Rattle.std.proofs.Common.{arith, ◌≡◌, ◌⊎◌, ◌↔◌, Bool, false, cond, List, [], ◌∷◌, ◌++◌, Option, None, Some, Ok, append-nil, refl, sym, ap, ◌∙◌, subst, inl, inr}
+use Rattle.std.proofs.lemmas.Grind.{flat_map-append}
+use Rattle.std.proofs.Common.{◌≡◌, ◌↔◌, Bool, false, cond, List, [], ◌∷◌, ◌++◌, Option, None, Ok, append-nil, refl, sym, ap, ◌∙◌, subst, inl, inr}
 use Rattle.std.specs.List.{flat_map}
-use Rattle.std.specs.Cmp.Lexicographic.{bytes_decides}
 use Rattle.cadf_join.specs.Sets as set
 use Rattle.cadf_join.specs.Contents.{Text, Texts, Contents, Has, IsWithin}
 use Rattle.cadf_join.specs.laws.Contents.{texts_total, texts_same}
@@ -10,8 +9,7 @@ use Rattle.cadf_join.specs.laws.Sets as laws
 use Rattle.cadf_join.proofs.Members as members
 use Rattle.cadf_line.specs.Atoms.{event_letter, begins_with, is_text}
 use Rattle.cadf_linefile.specs.Lines.{text_of_lines, with_line_feed}
-use Rattle.cadf_linefile.specs.Verdict.{digest_line, with_digest_line}
-use Rattle.cadf_file.specs.FileTwo.{body_two}
+use Rattle.cadf_linefile.specs.Verdict.{digest_line}
 use Rattle.cadf_log.specs.Texts.{body_instant}
 use Rattle.cadf_set.specs.Replica.{ReplicaModel}
 use Rattle.cadf_split.specs.declared.unit.Unit.{Unit}
@@ -21,7 +19,6 @@ use Rattle.cadf_split.proofs.Keys.{key_of_carrier}
 use Rattle.cadf_split.proofs.Parts.{in_part, part_has, part_key, part-union, key_listed}
 use Rattle.cadf_tool.specs.WrittenFile.{written_file}
 use Rattle.cadf_tool.specs.declared.input.Loaded.{Loaded}
-use Rattle.cadf_tool.specs.declared.input.Loaded.TheVariants.{Replica}
 use Rattle.cadf_tool.specs.Input.{IsInput}
 use Rattle.cadf_tool.specs.Told.{replica_model_of}
 use Rattle.cadf_tool.specs.Join.{join_of}

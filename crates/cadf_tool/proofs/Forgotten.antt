@@ -1,8 +1,8 @@
 -- Trees of runs of which nothing is left out.
-use Rattle.std.proofs.Common.{◌≡◌, List, [], ◌∷◌, ◌++◌, map, Option, refl, sym, ap, ◌∙◌, subst, inl, inr}
+use Rattle.std.proofs.Common.{◌≡◌, List, [], ◌∷◌, Option, sym, ap, ◌∙◌, subst, inl, inr}
 use Rattle.cadf_join.specs.Sets as set
 use Rattle.cadf_join.specs.Sets.{Listed}
-use Rattle.cadf_join.specs.Contents.{Text, Texts, Contents, Has, IsWithin}
+use Rattle.cadf_join.specs.Contents.{Text, Texts, Has, IsWithin}
 use Rattle.cadf_join.specs.laws.Contents.{texts_total, texts_same}
 use Rattle.cadf_join.specs.laws.Sets as laws
 use Rattle.cadf_join.proofs.Members as members
@@ -12,7 +12,7 @@ use Rattle.cadf_set.proofs.History.{union_all_append}
 use Rattle.cadf_split.specs.declared.unit.Unit.{Unit}
 use Rattle.cadf_split.specs.Windows.{key, part_keys}
 use Rattle.cadf_split.proofs.Parts.{in_part, key_listed}
-use Rattle.cadf_tool.specs.Exchange.{Derivation, Ruled, Files, File, kept, is_in_part, parts, external_inputs, external_inputs_of, all_inputs, brought, brought_by}
+use Rattle.cadf_tool.specs.Exchange.{Derivation, Files, File, kept, is_in_part, parts, external_inputs, external_inputs_of, brought_by}
 use Rattle.cadf_tool.specs.Exchange.{IsUnforgotten, AreUnforgotten}
 use Rattle.cadf_tool.proofs.Brought.{inputs_by, files_of_inputs}
 
