@@ -22,7 +22,6 @@ OTHERS = {
     "proof_of_union": ("cadf_seal", "made_proof_is_accepted"),
     "verdict_of": ("cadf_seal", "accepted_proof_is_true"),
     "final_sites": ("cadf_rehearsal", "rehearsal_equals_full_exchange"),
-    "played_of": ("cadf_rehearsal", "rehearsal_equals_full_exchange"),
 }
 HEAD = re.compile(r"\bIs(?:Run|RunBy|RequestRun|Made\w*)\b(?=[ \n(])")
 IMPORT = re.compile(r"ghost use Rattle[^{;]*\{([^}]*)\}|ghost use Rattle[\w.]*\.(\w+) as \w+")

@@ -7,6 +7,7 @@ from tests import text_of
 from tests.docs import headline
 
 EXCHANGE, MEMORY = (text_of(path) for path in headline.LAWS)
+REQUESTED = text_of(headline.REQUESTED)
 
 
 def without(text, clause):
@@ -20,15 +21,17 @@ def test_a_law_speaks_of_each():
     assert not list(headline.faults())
 
 
-@pytest.mark.parametrize("clause, engine", [
-    ("show", "run_union of ShowEngine"),
-    ("missing", "run_missing_unions"),
-    ("missing_by", "run_missing_by_union"),
-    ("seal", "run_union of SealEngine"),
-])
-def test_without_a_clause_its_engine_is_named(clause, engine):
-    found = list(headline.faults([without(EXCHANGE, clause), MEMORY]))
-    assert len(found) == 1 and "the clause of %s as its premise" % engine in found[0]
+@pytest.mark.parametrize("request_", ["Join", "Split", "Missing", "MissingBy", "Inventory", "Sketch", "MissingBySketch", "Seal", "Rule", "Show", "Check"])
+@pytest.mark.parametrize("row", ["", "IsAnswered (ask.%s x) sources text = Unit {0}\n"], ids=["none", "empty"])
+def test_without_a_row_its_request_is_named(request_, row):
+    """A request of which `IsAnswered` has no row, or one that says nothing."""
+    changed = re.sub(r"(?m)^IsAnswered \(?ask\.%s\b.*\n(?:    .*\n)*" % request_, row and row % request_, REQUESTED)
+    assert changed != REQUESTED and list(headline.faults(requested=changed)) == ["no law speaks of the request %s" % request_]
+
+
+def test_without_the_law_of_runs_the_run_is_named():
+    found = list(headline.faults([EXCHANGE.replace("IsRequestRun q", "IsAnyRun q"), MEMORY]))
+    assert len(found) == 1 and "the clause of run as its premise" in found[0]
 
 
 def test_without_a_clause_of_memory_the_call_of_c_is_named():
@@ -36,11 +39,7 @@ def test_without_a_clause_of_memory_the_call_of_c_is_named():
     assert len(found) == 1 and "the clause of cadf_split as its premise" in found[0]
 
 
-def test_a_premise_of_another_work_is_none():
-    assert list(headline.faults([EXCHANGE.replace("part_of_unions", "delta_between"), MEMORY]))
-
-
 def test_without_a_law_of_schedules_the_rehearsal_is_named(monkeypatch):
-    monkeypatch.setitem(headline.OTHERS, "played_of", ("cadf_rehearsal", "no_such_law"))
-    found = list(headline.faults())
-    assert len(found) == 1 and "the clause of run_rehearse as its premise" in found[0]
+    monkeypatch.setitem(headline.OTHERS, "final_sites", ("cadf_rehearsal", "no_such_law"))
+    found = [line.split(":")[0] for line in headline.faults()]
+    assert found == ["no law has the clause of cadf_rehearse as its premise", "no law speaks of the request Rehearse"]

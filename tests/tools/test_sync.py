@@ -1538,7 +1538,7 @@ def test_no_program_of_an_exchange_changes_a_file(sites, tools=TOOLS):
     """Where the system has Landlock, what reads a peer's bytes makes, changes and removes nothing."""
     from cadf_budget import LIBC, MAKE_RULES
     if LIBC is None or LIBC.syscall(MAKE_RULES, None, 0, 1) < 1:
-        pytest.skip("the system has no Landlock")
+        pytest.skip("Landlock: this kernel has none")
     for name in ("here.cadf", "there.cadf"):
         sites.put(name, facts(len(name)))
     (sites.path / "odd").write_text("#!/bin/sh\n(echo x >made; echo x >>here.cadf; rm -f there.cadf) 2>/dev/null\nexec %s \"$@\"\n" % shlex.quote(REFERENCE))
