@@ -108,7 +108,7 @@ ANOTHER = [
     ("conflicts open.cadf good.cadf", "replica file"), ("agree good.cadf many.json", "sketch"), ("report good.cadf", "answer of `cadf --version`"),
     ("seal good.cadf", "seal"), ("seal --prove d.json good.cadf", "proof"), ("seal --verify seal d.json proof", "answer of `cadf check`"),
     ("events good.cadf", "log"), ("events --bulk i good.cadf", "answer of `cadf check`"),
-    ("sync many.json SITE", "replica file"), ("sync open.cadf SITE", "sketch"), ("sync --conflicts good.cadf SITE", "conflict list"),
+    ("sync many.json SITE", "replica file"), ("sync open.cadf SITE", "sketch"), ("sync --conflicts good.cadf SITE", "replica file"),
 ]
 ROWS = [(file, said, call, status) for file, said, calls in FAULTS for call, status in calls.items()]
 
