@@ -39,6 +39,7 @@ NO_ROOM = ": make room there, or name another folder by TMPDIR"
 NOT_NOW = "it can't be started now: try again, or allow more files and processes"
 MORE_FILES = "allow more open files (ulimit -n), or give fewer at once"
 BESIDE_INPUTS = 64  # files that are open beside inputs
+OPEN_AT_LEAST = 16  # of these, in a program that opens its inputs and little else
 IN_THE_WAY = "in the way of a new file: move it away, and make the call again"
 OUT_OF_MEMORY = "out of memory"  # made once: no text is made while memory is out
 
@@ -475,10 +476,10 @@ def most_files():
     return resource.getrlimit(resource.RLIMIT_NOFILE)[0]
 
 
-def allow_inputs(count, advice=MORE_FILES):
-    """Has the system allow as many inputs to be open. Refuses more than it can, which says nothing of any of them."""
+def allow_inputs(count, advice=MORE_FILES, beside=BESIDE_INPUTS):
+    """Has the system allow as many inputs to be open, beside others. Refuses more than it can, which says nothing of any of them."""
     most = most_files()
-    wanted = 2 * count + BESIDE_INPUTS  # `cadf` opens each once more
+    wanted = 2 * count + beside  # `cadf` opens each once more
     if most != resource.RLIM_INFINITY and wanted > most:
         raise Fault("%d files are to be open, and the system allows %d: %s" % (wanted, most, advice))
 
@@ -489,7 +490,7 @@ def opened(names, pipes=False):
 
     Fault: one of them can't be opened, or they are more than may be open.
     """
-    allow_inputs(len(names))
+    allow_inputs(len(names), beside=OPEN_AT_LEAST)
     with contextlib.ExitStack() as files:
         inputs = []
         for name in names:

@@ -169,6 +169,7 @@ def test_no_room_for_temporary_files_is_told_of_their_folder(sites, words):
     (sites.path / "inventory").write_bytes(ended(Site.command, ["inventory", sites.file("file.cadf", contents(0, 3))], cwd=sites.path).output)
     sites.environment.update(CADF=Site.command, TMPDIR=str(sites.path))
     status, output, said = sites.run(*words, "north", preexec_fn=lambda: resource.setrlimit(resource.RLIMIT_FSIZE, (4, 4)))
+    said = [line for line in said if ".index: " not in line]  # an index that can't be written is passed over
     assert (status, output, len(said)) == (3, "", 1)
     assert re.match(r"(cadf-\w+: )?%s.*: File too large: make room there, or name another folder by TMPDIR$" % re.escape(str(sites.path)), said[0]), said
 
@@ -216,7 +217,7 @@ def test_agree_of_a_folder_and_a_sketch_has_the_files_of_one_window_open_at_a_ti
         assert sites.run("agree", "sketch", "north", **FEW) == (status, output, [line.replace(file, "north") for line in said[::-1]])
 
 
-@pytest.mark.parametrize("words", [["conflicts", "--values"], ["events"], ["events", "--from", DAYS[0][:10]], ["report"], ["report", "--from", DAYS[0][:10]]])
+@pytest.mark.parametrize("words", [["conflicts", "--values"], ["events"], ["events", "--since", DAYS[0][:10]], ["report"], ["report", "--from", DAYS[0][:10]]])
 def test_lists_have_the_files_of_one_window_open_at_a_time(sites, words):
     """So a site of more windows than files may be open is listed, also where a key is in several windows."""
     for number in (0, 2):
