@@ -10,6 +10,7 @@ the moment of a take. A reader needs no lock. A tool imports this as it imports 
   take(..), settle(..)       take inputs into a folder, and join the files of each window
 """
 import bisect
+import collections
 import contextlib
 import errno
 import hashlib
@@ -320,23 +321,34 @@ def files_of(part, indexes):
     return (part, *(tuple(index.digests(part)) for index in indexes))
 
 
+def parts_in(unit, log, inputs):
+    """The parts of which the inputs together hold facts, each with the digest of these."""
+    with split(["--by", unit, "--log=" + log], inputs) as parts, open(os.devnull, "wb") as nothing:
+        parts.head()
+        return {part: parts.copy(nothing) for part in parts.names()}
+
+
 def check_window(index, entry, file):
     """Raises why a file of a folder is refused, or that it holds something else than its name says."""
-    with split(["--by", index.unit, "--log=" + index.name()], [file]) as parts, open(os.devnull, "wb") as nothing:
-        parts.head()
-        found = [(part, parts.copy(nothing)) for part in parts.names()]
-    if found != [entry]:
+    if list(parts_in(index.unit, index.name(), [file]).items()) != [entry]:
         raise Fault("%s: %s" % (file.name, OTHER_CONTENT), REFUSED)
 
 
 def check_labels(unit, log, labels, inputs):
-    """Raises that inputs hold facts of another part than these, which they are said to be of."""
-    with split(["--by", unit, "--log=" + log], inputs) as parts, open(os.devnull, "wb") as nothing:
-        parts.head()
-        others = [part for part in parts.names() if (part not in labels, parts.copy(nothing))[0]]
-    if others:
-        names, advice = ", ".join(sorted({each.name for each in inputs})), inputs[0].advice
-        raise Fault("%s: it has facts of %s%s" % (names, ", ".join(others[:MOST_STRANGERS]), ": " + advice if advice else ""), REFUSED)
+    """Raises that an input holds facts of another part than its own one of these.
+
+    All are split at once. What then has the digest of an input, which is the only one of that part, holds just what that does.
+    """
+    found, own = parts_in(unit, log, inputs), collections.defaultdict(list)
+    for label, each in zip(labels, inputs):
+        own[label].append(each)
+    for label, those in own.items():
+        if len(those) == 1 and found.get(label) == last_digest(those[0].file):
+            continue
+        others = (found if len(own) == 1 else parts_in(unit, log, those)).keys() - {label}
+        if others:
+            names, advice = ", ".join(sorted({each.name for each in those})), those[0].advice
+            raise Fault("%s: it has facts of %s%s" % (names, ", ".join(sorted(others)[:MOST_STRANGERS]), ": " + advice if advice else ""), REFUSED)
 
 
 def without_facts(log, name):

@@ -1058,6 +1058,26 @@ def test_facts_of_another_window_than_they_say(folders):
     assert said(answer) == "cadf-sync: 2024-03-05 from h:there/: it has facts of 2024-03-02" + CAME_SO
 
 
+SWAPPED = {"two windows": lambda one, other: [(b"2024-03-02", other), (b"2024-03-03", one)],
+           "one of two": lambda one, other: [(b"2024-03-02", one | other), (b"2024-03-03", other)],
+           "a piece": lambda one, other: [(b"2024-03-02", one), (b"2024-03-03", other), (b"2024-03-02", other)]}
+
+
+def test_two_windows_that_are_swapped(folders):
+    """Each item of a message has to be of its own window, though that of another item be its. What is right is taken."""
+    folders.put("here/", facts(4))
+    one, other = (parts_of(facts(1, 2), "day")["2024-03-0%d" % day] for day in (2, 3))
+    hello = b'CADF-SYNC 1 {"limit":1073741824,"log":"g","site":"here/","timeout":20,"unit":"day","since":null}\n'
+    for kind, made in {**SWAPPED, "none": lambda one, other: [(b"2024-03-02", one), (b"2024-03-03", other), (b"2024-03-02", one)]}.items():
+        sent = [(part, b"facts", file_of("g", atoms)) for part, atoms in made(one, other)]
+        before = folders.files("here/")
+        answer = folders.runs("cadf-sync", "--serve", "--timeout=20", "here/", input=hello + message(b"take", items(*sent)))
+        if kind == "none":
+            assert answer.status == 0 and folders.holds("here/") == facts(4) | one | other, answer
+        else:
+            assert answer.status == 1 and folders.files("here/") == before and b" from the caller: it has facts of 2024-03-0" in answer.output, (kind, answer)
+
+
 def test_a_caller_that_sends_more_windows_than_it_may(folders):
     """The end that is served takes what is of windows that are there, and of new ones the nearest to now."""
     folders.put("here/", facts(1))
@@ -1668,7 +1688,9 @@ WRONG_OF_FOLDERS = [
     ("len(digests & ruled[key]) != 1", "1", test_metrics_of_folders),
     ("windows = nearest((part for part in parts if part != cadf_site.SHARED), now())", "windows = [part for part in parts if part != cadf_site.SHARED]",
      lambda folders: test_two_files_stop_no_exchange(folders, ("south/", "north/"))),
-    ("            if self.unit is not None:\n                self.check_labels(items, inputs)\n", "", test_facts_of_another_window_than_they_say),
+    ("            if self.unit is not None:\n                cadf_site.check_labels(", "            if False:\n                cadf_site.check_labels(", test_facts_of_another_window_than_they_say),
+    ("parts_in(unit, log, those)).keys() - {label}", "{}).keys() - own.keys()", test_two_windows_that_are_swapped),
+    ("if len(those) == 1 and found.get(label) == last_digest(those[0].file):", "if len(those) == 1 and found.get(label):", test_two_windows_that_are_swapped),
     ("        items = self.within_limit(items, peer)\n", "", test_a_caller_that_sends_more_windows_than_it_may),
 ]
 
