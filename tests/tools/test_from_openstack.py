@@ -8,6 +8,7 @@
 - Its checks of events beside those of the second implementation.
 - The file of what is set aside, full documents, files that can't be read or written, and a limit of memory.
 """
+import base64
 import copy
 import glob
 import json
@@ -296,7 +297,7 @@ def test_places():
 def test_texts():
     """A file is lines, and each costs itself alone. A text over several lines is read by --whole."""
     pretty = json.dumps({"id": "g", "events": [event(id="a"), event(id="b")]}, indent=1)
-    one, whole, lines = json.dumps(event(id="c")), ["--whole"], sum(line.strip() != "[]" for line in pretty.split("\n"))
+    one, whole, lines = json.dumps(event(id="c")), ["--whole"], len({line for line in pretty.split("\n") if line.strip() != "[]"})
     for what, data, words, kept, aside in (
             ("pretty", pretty, whole, "ab", 0), ("pretty twice", pretty + "\n\n" + pretty, whole, "abab", 0),
             ("a byte order mark", "\ufeff" + pretty, whole, "ab", 0), ("a byte order mark and a line", "\ufeff" + one, [], "c", 0),
@@ -424,8 +425,8 @@ def test_several():
     assert done.counts == counts(2, 4)
     assert done.entries == [{"file": "-", "line": 1, "faults": ["event 1: id", "event 2: tag 1", "event 2: tag 3", "event 3: not an object", "event 4: not an object"], "document": {"events": bad}}]
     assert read(json.dumps(done.entries[0])).entries == done.entries
-    line = "{}" * 30000 + "\n"
-    done = read(line * 3, preexec_fn=lambda: resource.setrlimit(resource.RLIMIT_CPU, (20, 20)))
+    lines = "".join("%s%s\n" % ("{}" * 30000, " " * number) for number in range(3))
+    done = read(lines, preexec_fn=lambda: resource.setrlimit(resource.RLIMIT_CPU, (20, 20)))
     assert (done.status, len(done.entries), done.counts, len(done.entries[0]["faults"])) == (1, 3, counts(aside=90000), 101)
 
 
@@ -548,9 +549,13 @@ def test_two_runs_set_aside_at_once(monkeypatch):
     program, write, others = loaded(TOOL), os.write, []
     first, second = (program.SetAside("shared") for _ in range(2))
 
+    def add_second(line):
+        second.add(("b", line), ["id"], "event", {})
+        second.sync()
+
     def slow(file, data):
         if not others:
-            others.append(threading.Thread(target=second.add, args=(("b", 1), ["id"], "event", {})))
+            others.append(threading.Thread(target=add_second, args=(1,)))
             others[0].start()
             others[0].join(0.5)
         return write(file, data)
@@ -560,10 +565,30 @@ def test_two_runs_set_aside_at_once(monkeypatch):
     others[0].join()
     first.put('{"torn": ')
     first.flush()
-    second.add(("b", 2), ["id"], "event", {})
+    os.close(first.descriptor)  # as of a run that is killed
+    add_second(2)
     lines = [line for line in open("shared", encoding="utf-8")]
     assert [line[:9] for line in lines] == ['{"file": '] * 2 + ['{"torn": '] + ['{"file": ']
     assert [json.loads(line)["file"] for line in lines if "torn" not in line] == ["a", "b", "b"]
+
+
+def test_what_is_set_aside_is_written_in_batches(monkeypatch):
+    """Short lines that are refused cost no call of the system each."""
+    program, write, sizes = loaded(TOOL), os.write, []
+    monkeypatch.setattr(program.os, "write", lambda file, data: (sizes.append(len(data)), write(file, data))[1])
+    aside = program.SetAside("aside")
+    for number in range(5000):
+        aside.add(("a", number), ["x"], "text", b"%d" % number)
+    aside.sync()
+    assert len(sizes) <= 2 * sum(sizes) // program.BLOCK + 2 and [json.loads(line)["line"] for line in open("aside", "rb")] == list(range(5000))
+
+
+def test_equal_lines_are_set_aside_once():
+    """All are counted. Of lines of control characters, of which each would be six bytes as text, what is set aside is a third longer."""
+    first, second, zeros = b"x\n" * 1000, json.dumps({"id": 1}).encode() + b"\n", bytes(2 ** 16) + b"\n"
+    done = read(first + second + first + zeros + second + zeros + b"y\n")
+    assert done.counts == counts(0, 2005) and [entry["line"] for entry in done.entries] == [1, 1001, 2002, 2005]
+    assert base64.b64decode(done.entries[2]["base64"]) == zeros[:-1] and os.stat("aside").st_size < len(zeros) * 3 // 2
 
 
 SET_ASIDE = {"event": {}, "document": {"events": [{}]}, "text": "{}", "base64": "e30="}
