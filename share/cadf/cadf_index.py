@@ -153,7 +153,7 @@ class EventIndex:
         while stale and count < ROWS_AT_ONCE:
             part = stale.pop()
             self.remove(part)
-            with opened_parts(folder, [part]) as (_, inputs):
+            with folder.leaving_out(part), opened_parts(folder, [part]) as (_, inputs):
                 count += self.put(part, {digest: each for (_, digest), each in inputs.items()})
         self.run("DELETE FROM several WHERE key IN touched")
         self.run("INSERT INTO several SELECT key FROM bodies WHERE key IN touched GROUP BY key HAVING count(*) > 1")

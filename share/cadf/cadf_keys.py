@@ -13,7 +13,7 @@ import tempfile
 from typing import NamedTuple
 
 from cadf_logs import utc
-from cadf_site import CHANGED, DAMAGED, SHARED, TRIES, UNITS, Folder, is_folder, made_of_parts
+from cadf_site import CHANGED, DAMAGED, SHARED, TRIES, UNITS, Folder, is_folder, made_of_parts, tell_damaged
 from cadf_toolkit import REFUSED, Fault, Input, cadf, in_order, most_files, opened, with_digest
 
 AT_ONCE = 256  # files that one call is given, where as many may be open
@@ -126,13 +126,13 @@ class Windows(Files):
     their facts, each key in one file, and `rulings` that of one of all rulings of the site, if there are any. `made` has by
     part, in order, what `make` gives of the windows of a range, and of the shared part if that is wanted. It is given this
     object, a part with the digests of its files, and these as inputs. Only those are open meanwhile: a program that is started costs as much as there
-    are open files.
+    are open files. `damaged` has why parts are left out of all this.
     """
 
     def __init__(self, name, limits, folder, make, with_shared=True):
         super().__init__(folder)
-        self.make, self.kept, self.split = make, {}, ([], {})
-        with Folder(name) as site:
+        self.make, self.kept, self.split, self.damaged = make, {}, ([], {}), {}
+        with Folder(name, self.damaged) as site:
             for _ in range(TRIES):
                 index = site.site()
                 self.head, self.unit = b"L %s\n" % index.log.encode(), index.unit
@@ -196,6 +196,10 @@ class Windows(Files):
         last = "~" if limits.until is None else utc(limits.until - 1)[:length]
         return [part for part in parts if part != SHARED and first <= part <= last]
 
+    def tell_damaged(self, limits):
+        """Says which parts were left out. Returns the status: rulings and the windows of the range were asked for."""
+        return tell_damaged(self.damaged, [SHARED, *self.within(limits, self.damaged)])
+
     def log(self):
         """The log's name."""
         return json.loads(self.head[len("L "):])
@@ -238,8 +242,8 @@ class Windows(Files):
 
 
 @contextlib.contextmanager
-def opened_within(names, limits, folder):
-    """Opens files for a call, and of a site that is a folder one of what a range needs of it.
+def opened_within(names, limits, folder, folders):
+    """Opens files for a call, and of a site that is a folder one of what a range needs of it. Its Windows are added to `folders`.
 
     This is the shared part, the windows of the range, and all facts of the keys that are in several windows.
     """
@@ -248,6 +252,7 @@ def opened_within(names, limits, folder):
         for name in names:
             if is_folder(name):
                 windows = Windows(name, limits, folder, lambda windows, _, inputs: windows.join(inputs))
+                folders.append(windows)
                 together, = windows.joined([windows.put([]), *windows.made.values(), *windows.facts])
                 found.append(Input(name, files.enter_context(opened([together]))[0].file))
             else:

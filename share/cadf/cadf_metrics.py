@@ -79,7 +79,7 @@ def largest_window(name):
         return 0
     if not cadf_site.is_folder(name):
         return os.stat(name).st_size
-    with cadf_site.Folder(name) as folder:
+    with cadf_site.Folder(name, {}) as folder:
         sizes = cadf_site.made_of_parts([folder], None, lambda _, files: sum(os.fstat(each.file.fileno()).st_size for each in files.values()))
     return max(sizes.values(), default=0)
 

@@ -25,13 +25,14 @@ def keys_of(joined):
 
 
 class Plan(Windows):
-    """The windows of a site that may answer, in order of time, each with its keys, or None if all of it has to be shown.
+    """The windows of a folder that may answer, in order of time, each with its keys, or None if all of it has to be shown.
 
     `counts` has what the index has counted, if that was asked: all else is then of what it can't count.
     """
 
-    def __init__(self, question, count_by, is_only_open, working, index, site):
+    def __init__(self, folder, question, count_by, is_only_open, working, index, site):
         super(Windows, self).__init__(working)
+        self.site_folder, self.damaged = folder, folder.damaged
         self.question, self.site, self.unit, self.head, self.split = question, site, site.unit, b"L %s\n" % site.log.encode(), ([], {})
         index.ask(question)
         self.counts = index.counts(count_by) if count_by and question.is_indexed and not is_only_open else None
@@ -53,19 +54,23 @@ class Plan(Windows):
         return {part for key in self.apart for part in self.several[key]}
 
     def take(self, inputs):
-        """Takes the files of its parts, which are open, and puts together what has to be."""
+        """Takes the files of its parts, which are open, and puts together what has to be. Returns whether all of them could be read."""
         self.inputs, rulings, names, texts = {}, [], [], set()
         for (part, digest), each in inputs.items():
             self.inputs.setdefault(part, {})[digest] = each
-        for item in self.inputs.pop(SHARED, {}).items():
-            data = contents(*item)
-            place = data.find(RULINGS)
-            rulings += [self.put([data[place + 1:]])] if place >= 0 else []
+        with self.site_folder.leaving_out(SHARED):
+            for item in self.inputs.pop(SHARED, {}).items():
+                data = contents(*item)
+                place = data.find(RULINGS)
+                rulings += [self.put([data[place + 1:]])] if place >= 0 else []
         for part in sorted(self.parts_apart()):
-            for item in self.inputs[part].items():
-                found = {key: lines for key, lines in keys_in(contents(*item)) if key_of(key) in self.apart}
-                texts.update(found)
-                names += [self.put([NODES[1:], *found.values()])] if found else []
+            with self.site_folder.leaving_out(part):
+                for item in self.inputs[part].items():
+                    found = {key: lines for key, lines in keys_in(contents(*item)) if key_of(key) in self.apart}
+                    texts.update(found)
+                    names += [self.put([NODES[1:], *found.values()])] if found else []
+        if not self.damaged.keys().isdisjoint(self.parts):
+            return False
         self.common, self.rulings = frozenset(texts), self.joined(rulings)
         self.facts = list(self.common_facts(names))
         self.ruled_in = {}  # the keys that are in one window and have several bodies
@@ -73,22 +78,25 @@ class Plan(Windows):
             parts = self.several.get(key_of(key), ())
             if len(parts) == 1:
                 self.ruled_in.setdefault(*parts, []).append(key)
+        return True
 
     def calls(self, is_reversed):
-        """Yields the files of each call of `cadf` that shows windows, in order, those of their rulings, and whether they may have conflicts."""
+        """Yields of each call of `cadf` that shows windows, in order, these, their files, those of their rulings, and whether they may have conflicts."""
         order = sorted(self.keys, reverse=is_reversed)
         for files, parts in self.groups(order):
             with opened(self.ruled_of(key for part in parts for key in self.ruled_in.get(part, ()))) as rulings:
-                yield files, rulings, not self.open.isdisjoint(parts)
+                yield parts, files, rulings, not self.open.isdisjoint(parts)
 
     def groups(self, order):
         """Yields the files of each call, and the windows that they are of."""
         if self.question.has_ids and None in self.keys.values():
             for part in order:
-                for digest, each in self.inputs[part].items():
-                    if last_digest(each.file) != digest:
-                        raise Fault("%s: %s" % (each.name, DAMAGED), REFUSED)
-                yield list(self.inputs[part].values()), [part]
+                with self.site_folder.leaving_out(part):
+                    for digest, each in self.inputs[part].items():
+                        if last_digest(each.file) != digest:
+                            raise Fault("%s: %s" % (each.name, DAMAGED), REFUSED)
+                if part not in self.damaged:
+                    yield list(self.inputs[part].values()), [part]
             return
         for group in grouped(self.of_keys(order), lambda item: os.path.getsize(item[1]), MOST_BYTES, MOST_FILES):
             with opened([name for _, name in group]) as files:
@@ -100,10 +108,13 @@ class Plan(Windows):
         """Yields the names of files with all of those keys of each window that may answer, and with that of the window."""
         for part in order:
             keys = None if self.keys[part] is None else keys_of(self.keys[part])
-            for item in self.inputs[part].items():
-                lines = [lines for key, lines in keys_in(contents(*item)) if self.may_answer(key, keys)]
-                if lines:
-                    yield part, self.put([NODES[1:], *lines])
+            names = []
+            with self.site_folder.leaving_out(part):
+                for item in self.inputs[part].items():
+                    lines = [lines for key, lines in keys_in(contents(*item)) if self.may_answer(key, keys)]
+                    names += [self.put([NODES[1:], *lines])] if lines else []
+            if part not in self.damaged:
+                yield from ((part, name) for name in names)
 
     def may_answer(self, key, keys):
         """Whether a key may answer that is in one window, whose keys may be narrowed to these."""
@@ -119,13 +130,12 @@ class Plan(Windows):
 def plan_of(folder, *words):
     """The plan for an open folder, whose files are open; None where there is no index, or the files are too many to be open."""
     for _ in range(TRIES):
-        plan = planned(folder, functools.partial(Plan, *words))
+        plan = planned(folder, functools.partial(Plan, folder, *words))
         if plan is None or 2 * sum(len(plan.site.digests(part)) for part in plan.parts) + OTHERS > most_files():
             yield None
             return
         with opened_parts(folder, plan.parts) as (now, inputs):
-            if now.lines == plan.site.lines:
-                plan.take(inputs)
+            if now.lines == plan.site.lines and plan.take(inputs):
                 yield plan
                 return
     raise Fault(CHANGED % folder.shown())

@@ -2,7 +2,7 @@
 
 docs/FORMATS.md has the forms, and what is refused. A tool imports this as it imports cadf_toolkit, and uses
 
-  sealed_folder(name)           the seal of a folder, as it stood at one moment
+  sealed_folder(name, damaged)  the seal of a folder, as it stood at one moment
   proved(facts, name)           the proof which facts a folder has
   read(input, SiteSeal)         the seal that a file has
   verified(seal, facts, proof)  what a proof says of facts, under the seal of a folder
@@ -109,9 +109,9 @@ def sealed(inputs):
     return int(found[1]), found[2]
 
 
-def sealed_folder(name):
-    """The seal of a folder, as it stood at one moment. Refuses a file that holds something else than its name says."""
-    with Folder(name) as folder, Progress() as progress:
+def sealed_folder(name, damaged):
+    """The seal of a folder, as it stood at one moment, without the parts of which a file is damaged, which are noted with why."""
+    with Folder(name, damaged) as folder, Progress() as progress:
         index, count = folder.site(), itertools.count()
         seal = SiteSeal(index.log, index.unit)
 

@@ -23,9 +23,9 @@ import subprocess
 import tempfile
 
 from cadf_times import Bounds
-from cadf_toolkit import (CADF, FAILED, IN_THE_WAY, LARGEST, LAST, REFUSED, Fault, Input, Refusal, allow_inputs, another_program, as_input, cadf, check_end,
-                          check_lock, grouped, last_digest, log_name, name_shown, new_lock, open_descriptor, opened_file, other_log, say, started_cadf, sync,
-                          wait_for_lock, whole_number, with_digest)
+from cadf_toolkit import (CADF, DIFFERS, DONE, FAILED, IN_THE_WAY, LARGEST, LAST, MEMORY, REFUSED, Fault, Input, Refusal, allow_inputs, another_program,
+                          as_input, cadf, check_end, check_lock, grouped, last_digest, log_name, name_shown, new_lock, open_descriptor, opened_file,
+                          other_log, say, started_cadf, sync, wait_for_lock, whole_number, with_digest)
 
 ALL = 10 ** 9 - 1  # windows that a take may begin if a person allows all
 UNITS = {"month": len("2024-03"), "day": len("2024-03-01"), "hour": len("2024-03-01T12")}  # with the length of a window's name
@@ -46,7 +46,7 @@ CHANGED = "%%s: it changed at each of %d looks: try again" % TRIES
 MOST_NEW = 400  # windows that a take begins, unless more are allowed
 TOO_MANY_NEW = "the files make more than %d new windows: if that is meant, allow it by --windows N; --rest FILE has all else taken"
 OUTSIDE = "the files have events of the window %s, which --not-before or --not-after leaves out: --rest FILE has all else taken"
-MOST_STRANGERS = 20  # that are named
+MOST_NAMED = 20  # strangers, or parts that are left out
 PIECE = 2 ** 16  # bytes of a line that are held at once
 MOST_AT_ONCE = 2 ** 28  # bytes of inputs that are split at once, if there are several, so that a part's file doesn't grow with their number
 MOST_SEEN = 2 ** 20  # bytes of a window's smaller files, in which a take looks for what it brings
@@ -57,6 +57,7 @@ MOST_SETTLED = 2 ** 28  # bytes that are joined before `site` is replaced, so th
 NO_SITE = "no site in it: `cadf-take --by day SITE/ FILE..` makes one"
 DAMAGED = "the site is damaged: restore it as the guide says under `A damaged site`"
 NO_FILE = "not a regular file: " + DAMAGED
+NOT_ITS_FAULT = (errno.EMFILE, errno.ENFILE, errno.ENOMEM)  # of a file that can't be opened now
 OTHER_CONTENT = "it holds something else than its name says: " + DAMAGED
 
 
@@ -152,10 +153,14 @@ class Index:
 
 
 class Folder:
-    """A folder that is open: whatever is renamed around it, names are looked up in it."""
+    """A folder that is open: whatever is renamed around it, names are looked up in it.
 
-    def __init__(self, name):
+    With a dictionary `damaged` it is read so far as it can be: a part of which a file is damaged is noted there, and left out.
+    """
+
+    def __init__(self, name, damaged=None):
         self.name, self.read, self.files = name.rstrip("/") or "/", (None, None), contextlib.ExitStack()
+        self.damaged = damaged  # why parts are left out, by part; None if all of them are needed
         try:
             self.descriptor = os.open(name, os.O_RDONLY | os.O_DIRECTORY)
             self.found = os.fstat(self.descriptor)
@@ -208,6 +213,8 @@ class Folder:
         except FileNotFoundError:
             raise
         except OSError as fault:
+            if fault.errno in NOT_ITS_FAULT:
+                raise
             said = NO_FILE if fault.errno in (errno.ELOOP, errno.EINVAL, errno.EISDIR) else fault.strerror
             raise Fault("%s: %s" % (self.shown(name), said)) from None
 
@@ -227,12 +234,28 @@ class Folder:
             found = os.fstat(file.fileno())
             state = found.st_dev, found.st_ino, found.st_size, found.st_mtime_ns, found.st_ctime_ns
             if state != self.read[0]:
-                self.read = state, Index.read(file.read(LONGEST_INDEX))
+                found = Index.read(file.read(LONGEST_INDEX))
+                self.read = state, found and found.with_parts(dict.fromkeys(self.damaged or (), ()))
                 self.files.close()  # the one read stays open, so that no other file gets its number
                 self.files = files.pop_all()
         if self.read[1] is None:
             raise Fault("%s: not the file of a site: %s" % (self.shown(INDEX), DAMAGED), REFUSED)
         return self.read[1]
+
+    def is_of(self, part, fault):
+        """Whether a fault is of a file of a part, which it names, and so says nothing of other parts."""
+        return fault.status != MEMORY and str(fault).startswith(self.shown(part + ".").rstrip('"'))
+
+    @contextlib.contextmanager
+    def leaving_out(self, part):
+        """A context in which a part of which a file is found to be damaged is left out, if not all parts are needed."""
+        try:
+            yield
+        except Fault as fault:
+            if self.damaged is None or not self.is_of(part, fault):
+                raise
+            self.damaged[part] = fault
+            self.read = self.read[0], self.read[1].with_parts({part: ()})
 
     def is_site(self):
         """Whether a `site` is there."""
@@ -275,22 +298,24 @@ def opened_parts(folder, parts):
     """
     with contextlib.ExitStack() as files:
         for _ in range(TRIES):
-            index, inputs, missing = folder.site(), {}, None
+            index, inputs, missing = folder.site(), {}, []
             entries = index.entries() if parts is None else [(part, digest) for part in parts for digest in index.digests(part)]
             allow_inputs(len(entries), FEWER_FILES)
             for entry in entries:
-                try:
-                    inputs[entry] = folder.input(file_name(*entry))
-                except FileNotFoundError:
-                    missing = file_name(*entry)
-                    break
-                files.enter_context(inputs[entry].file)
+                with folder.leaving_out(entry[0]):
+                    try:
+                        inputs[entry] = folder.input(file_name(*entry))
+                        files.enter_context(inputs[entry].file)
+                    except FileNotFoundError:
+                        missing.append(entry)
             now = folder.site()
             if now is index or now.lines == index.lines:
-                if missing:
-                    raise Fault("%s: not there: %s" % (folder.shown(missing), DAMAGED))
-                yield index, inputs
-                return
+                if not missing:
+                    yield index, inputs
+                    return
+                for entry in missing:
+                    with folder.leaving_out(entry[0]):
+                        raise Fault("%s: not there: %s" % (folder.shown(file_name(*entry)), DAMAGED))
             files.close()
     raise Fault(CHANGED % folder.shown())
 
@@ -302,18 +327,48 @@ def made_of_parts(folders, parts, make):
     that is started costs as much as there are open files. If a part changes meanwhile, it is made again, and no other.
     """
     made = {}
+
+    def made_of(part):
+        """The files of a part, and what is made of them; or the part, and why it can't be."""
+        try:
+            with contextlib.ExitStack() as files:
+                now, inputs = zip(*(files.enter_context(opened_parts(folder, [part])) for folder in folders))
+                for folder in folders:
+                    if part in (folder.damaged or ()):
+                        raise folder.damaged[part]
+                return files_of(part, now), make(part, *({digest: each for (_, digest), each in found.items()} for found in inputs))
+        except Fault as fault:
+            return part, Fault(str(fault), fault.status)
+
     for _ in range(TRIES):
         indexes = [folder.site() for folder in folders]
         names = dict.fromkeys(itertools.chain(*(index.parts() for index in indexes)) if parts is None else parts)
-        keys = {part: files_of(part, indexes) for part in names}
-        for part, key in keys.items():
-            if key not in made:
-                with contextlib.ExitStack() as files:
-                    now, inputs = zip(*(files.enter_context(opened_parts(folder, [part])) for folder in folders))
-                    made[files_of(part, now)] = make(part, *({digest: each for (_, digest), each in found.items()} for found in inputs))
+        keys = {part: files_of(part, indexes) for part in names if not any(part in (folder.damaged or ()) for folder in folders)}
+        for key, found in map(made_of, [part for part, key in keys.items() if key not in made]):
+            with contextlib.ExitStack() as steps:
+                for folder in folders:
+                    steps.enter_context(folder.leaving_out(key))
+                if isinstance(found, Fault):
+                    raise found
+                made[key] = found
         if made.keys() >= set(keys.values()):
             return {part: made[key] for part, key in keys.items()}
     raise Fault(CHANGED % ", ".join(folder.shown() for folder in folders))
+
+
+def names_shown(parts):
+    """The names of parts in order; of many the first ones, and how many there are."""
+    names = sorted(parts, key=order)
+    return ", ".join(names[:MOST_NAMED]) + (" and others, %d in all" % len(names) if len(names) > MOST_NAMED else "")
+
+
+def tell_damaged(damaged, asked):
+    """Says which parts were left out. Returns the status, by those that were asked for."""
+    for part in sorted(damaged, key=order)[:MOST_NAMED]:
+        say("left out %s: %s" % (part, damaged[part]))
+    if len(damaged) > MOST_NAMED:
+        say("left out %s" % names_shown(damaged))
+    return REFUSED if any(part in damaged for part in asked) else DIFFERS if damaged else DONE
 
 
 def files_of(part, indexes):
@@ -348,7 +403,7 @@ def check_labels(unit, log, labels, inputs):
         others = (found if len(own) == 1 else parts_in(unit, log, those)).keys() - {label}
         if others:
             names, advice = ", ".join(sorted({each.name for each in those})), those[0].advice
-            raise Fault("%s: it has facts of %s%s" % (names, ", ".join(sorted(others)[:MOST_STRANGERS]), ": " + advice if advice else ""), REFUSED)
+            raise Fault("%s: it has facts of %s%s" % (names, ", ".join(sorted(others)[:MOST_NAMED]), ": " + advice if advice else ""), REFUSED)
 
 
 def without_facts(log, name):
@@ -508,10 +563,10 @@ class Taking:
         strangers += [name for name in left if not self.is_removed(name)]
         if WORKING in strangers:
             raise Fault("%s: %s" % (self.folder.shown(WORKING), IN_THE_WAY))
-        for name in sorted(strangers)[:MOST_STRANGERS]:
+        for name in sorted(strangers)[:MOST_NAMED]:
             say("%s: no file of the site: it is passed over" % self.folder.shown(name))
-        if len(strangers) > MOST_STRANGERS:
-            say("%s: %d more are no files of the site" % (self.folder.shown(), len(strangers) - MOST_STRANGERS))
+        if len(strangers) > MOST_NAMED:
+            say("%s: %d more are no files of the site" % (self.folder.shown(), len(strangers) - MOST_NAMED))
 
     def is_removed(self, name):
         """Removes a name, if it is there. False if it is a folder's."""
@@ -638,7 +693,11 @@ class Taking:
     def join(self, part, digests):
         """Joins files of a part into one, which is in their place. Another file of the part may be that one."""
         with self.files(part, digests) as inputs, self.new_file() as output:
-            self.cadf(["join"], inputs, output.fileno())
+            try:
+                self.cadf(["join"], inputs, output.fileno())
+            except Fault:
+                self.is_removed(WORKING)  # the next part goes on
+                raise
         with self.folder.input(WORKING).file as file:
             digest = last_digest(file)
         self.name(file_name(part, digest))
@@ -655,22 +714,31 @@ class Taking:
                 sizes = self.sizes(part)
 
     def settle(self):
-        """Joins the files of each part into one, or into as few as can be read. Returns how many files of which parts are left."""
+        """Joins the files of each part into one, or into as few as can be read. Returns how many files of which parts are left.
+
+        Leaves out parts of which a file is damaged.
+        """
         done, large = 0, {}
-        found = {part: self.sizes(part) for part in self.index.parts()}  # each file of them has to be there
-        for part, sizes in found.items():
-            rising = sorted(sizes, key=lambda digest: (sizes[digest], digest))
-            for group in grouped(rising, sizes.get, LARGEST):  # each makes one file that cadf reads
-                if len(group) > 1:
-                    self.join(part, group)
-                    done += sum(sizes[digest] for digest in group)
-            if len(self.digests(part)) > 1:
-                large[part] = len(self.digests(part))
+        for part in self.index.parts():
+            with self.folder.leaving_out(part):
+                done += self.settle_part(part)
+                if len(self.digests(part)) > 1:
+                    large[part] = len(self.digests(part))
             if done > MOST_SETTLED:
                 self.put_changed()
                 done = 0
         self.put_changed()
         return large
+
+    def settle_part(self, part):
+        """The same of one part. Returns the bytes that were joined."""
+        sizes, done = self.sizes(part), 0  # each file of it has to be there
+        rising = sorted(sizes, key=lambda digest: (sizes[digest], digest))
+        for group in grouped(rising, sizes.get, LARGEST):  # each makes one file that cadf reads
+            if len(group) > 1:
+                self.join(part, group)
+                done += sum(sizes[digest] for digest in group)
+        return done
 
     def put_changed(self):
         """Replaces `site` by one that names the files that there are now, unless it does."""
@@ -716,9 +784,9 @@ def check_file(name):
 
 
 @contextlib.contextmanager
-def taking(name, unit, log, wait):
+def taking(name, unit, log, wait, damaged=None):
     """Locks a folder for a take, unless it is of another unit or log."""
-    with Folder(name) as folder, folder.naming():
+    with Folder(name, damaged) as folder, folder.naming():
         if unit is None and not folder.is_site():
             raise folder.no_site()
         with Taking(folder, wait) as found:
@@ -768,8 +836,10 @@ def take(name, inputs, unit=None, log=None, wait=None, limits=None):
 
 
 def settle(name, wait=None):
-    """Joins the files of each window of the folder of that name. Says which windows are too large for one file."""
-    with taking(name, None, None, wait) as found:
+    """Joins the files of each window of the folder of that name. Says which are too large for one file, or damaged. Returns the status."""
+    damaged = {}
+    with taking(name, None, None, wait, damaged) as found:
         large = found.settle()
     for part, count in large.items():
         say("%s: the window %s is larger than a file may be, and has %d files" % (name_shown(name), part, count))
+    return tell_damaged(damaged, damaged)

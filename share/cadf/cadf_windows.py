@@ -173,7 +173,7 @@ class FolderSite:
                     check_digest(each, digest)
                 yield inputs
         except Fault as fault:
-            if not str(fault).startswith(self.folder.shown(part + ".").rstrip('"')):
+            if not self.folder.is_of(part, fault):
                 raise
             raise Damaged(str(fault), fault.status) from None
 

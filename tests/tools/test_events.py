@@ -147,15 +147,19 @@ def test_another_program_that_imitates_the_command(cadf, tmp_path, wrong):
 
 
 @pytest.mark.parametrize("place", [3, -3])
-def test_a_damaged_window_is_refused_where_it_is_not_shown(cadf, tmp_path, place):
+def test_a_damaged_window_is_named_where_it_is_not_shown(cadf, tmp_path, place):
+    """Of the other windows all is shown that a file without the facts of this one shows."""
     chance = random.Random(1)
-    folder = folder_of(tmp_path / "site", facts(chance), "day", chance)
+    atoms = facts(chance)
+    folder = folder_of(tmp_path / "site", atoms, "day", chance)
     name = next(name for name in os.listdir(folder) if name.startswith("1969"))
     data = bytearray((tmp_path / "site" / name).read_bytes())
     data[place] ^= 1
     (tmp_path / "site" / name).write_bytes(data)
     answer = events(os.path.join(TOP, "tools"), cadf, folder, RANGES[1])
-    assert answer.status == 1 and b"damaged" in answer.error and answer.output == b""
+    lines, left_out = wanted(atoms - parts_of(atoms, "day")["1969-12-31"], RANGES[1])
+    said = [b"cadf-events: left out 1969-12-31: ", *([b"cadf-events: " + OPEN.encode()] if left_out else [])]
+    assert answer.status == 5 and answer.output == lines and all(map(bytes.startswith, answer.error.splitlines(), said)), answer
 
 
 @pytest.mark.parametrize("words", [["cadf-conflicts", "--values"], ["cadf-report"], ["cadf-report", "--from", "2024-03-01", "--until", "2024-03-02"]])

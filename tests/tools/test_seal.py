@@ -115,7 +115,7 @@ def test_takes_meanwhile(seals, monkeypatch):
     monkeypatch.setattr(cadf_toolkit, "CADF", Site.command)
     monkeypatch.setattr(cadf_seals, "sealed", late)
     wanted = [site_seal_of("g", atoms_of(*documents[:count]), "day") for count in (1, 2)]
-    assert cadf_seals.sealed_folder(str(seals.site.folder)).bytes() in wanted and not later
+    assert cadf_seals.sealed_folder(str(seals.site.folder), {}).bytes() in wanted and not later
 
 
 def test_files_of_one_window_are_open_at_a_time(seals):
@@ -336,10 +336,10 @@ def test_damaged_windows(seals):
                        (held[1], "it holds something else than its name says: ")]:
         open(one, "wb").write(data)
         status, output, lines = seals.run("site")
-        assert (status, output, len(lines)) == (1, b"", 1) and lines[0].startswith("cadf-seal: site/%s: %s" % (os.path.basename(one), said))
+        assert (status, output, len(lines)) == (1, b"", 2) and lines[0].startswith("cadf-seal: left out 2024-02-29: site/%s: %s" % (os.path.basename(one), said))
     os.unlink(one)
     status, output, lines = seals.run("site")
-    assert (status, output) == (3, b"") and "not there: the site is damaged" in lines[0]
+    assert (status, output) == (1, b"") and "not there: the site is damaged" in lines[0]
 
 
 def test_a_fact_in_another_window_is_refused(seals):

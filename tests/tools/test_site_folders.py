@@ -749,14 +749,13 @@ def test_what_a_site_names_and_lacks_is_named(site):
 
 
 def test_settling_names_the_lost_file_of_a_window_that_has_one(site):
-    """As a take into that window does. All windows are looked at before the files of any are joined."""
+    """As a take into that window does. The others are settled."""
     site.takes(contents(0), contents(2), contents(5))
     path = next(site.folder.glob("2024-02-29.*"))
     path.unlink()
-    before = site.listed()
-    line = "cadf-take: %s: not there: the site is damaged: restore it as the guide says under `A damaged site`\n" % path
-    assert site.take("--settle") == (3, b"", line.encode())
-    assert site.listed() == before
+    line = "cadf-take: left out 2024-02-29: %s: not there: the site is damaged: restore it as the guide says under `A damaged site`\n" % path
+    assert site.take("--settle") == (1, b"", line.encode())
+    assert {part: len(files) for part, files in site.files().items() if files} == {"2024-02-29": 1, "2024-03-01": 1}
 
 
 # ---- Wrong versions

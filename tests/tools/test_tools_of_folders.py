@@ -150,7 +150,9 @@ def test_what_is_in_the_place_of_a_file_of_a_folder_is_damage(sites, make, name)
     line = "north/%s: not a regular file: the site is damaged: restore it as the guide says under `A damaged site`" % path.name
     for tool in ("which", "conflicts", "events", "seal"):
         status, output, said = sites.run(tool, "north")
-        assert (status, output, said[0]) == (3, "", line if tool == "which" else "cadf-%s: %s" % (tool, line))
+        is_whole = tool == "which" or name == "site"  # the other windows are read without this one
+        before = "" if tool == "which" else "cadf-%s: %s" % (tool, "" if is_whole else "left out 2024-02-29: ")
+        assert (status, output, said[0]) == (3 if is_whole else 1, "", before + line)
 
 
 def test_which_without_a_command_names_no_file(sites):
@@ -322,7 +324,8 @@ def test_right_digests_make_no_right_lines(sites, words, key):
     (sites.north.folder / (name % digest)).write_bytes(data)
     (sites.north.folder / "site").write_bytes(index_of({"2024-03-01": [digest]}))
     status, output, said = sites.run(*words, "north")
-    assert (status, output, len(said)) == (1, "", 1) and said[0].startswith("cadf-%s: north/%s: line " % (words[0], name % digest))
+    assert (status, len(said)) == (1, 1) and said[0].startswith("cadf-%s: left out 2024-03-01: north/%s: line " % (words[0], name % digest))
+    assert not output or words[0] == "report"
 
 
 def arrives(sites, name, value):
