@@ -29,6 +29,9 @@ HELP = {
     "set_aside_bytes": "Bytes of these files and of the reasons beside them.",
     "open_conflicts": "Open conflicts of the windows that the last run changed; with --conflicts, of the site.",
     "largest_window_bytes": "Bytes of the site's largest window.",
+    "oldest_scrub_timestamp_seconds": "When of all whole files the one was read that was not read for longest.",
+    "damaged_windows": "Windows of which a file is damaged or gone.",
+    "doubtful_windows": "Windows that were repaired by other facts than were lost, until a person removes what was kept.",
     "last_success_timestamp_seconds": "When the last run that succeeded ended.",
 }
 BEGINNING = b"# HELP cadf_"

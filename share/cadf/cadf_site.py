@@ -55,8 +55,9 @@ SMALLEST = 2 ** 12  # bytes below which all files count as of one size
 MOST_JOINED = 2 ** 24  # bytes that a take joins; more is left to --settle
 MOST_SETTLED = 2 ** 28  # bytes that are joined before `site` is replaced, so that a settling that is killed goes on from there
 NO_SITE = "no site in it: `cadf-take --by day SITE/ FILE..` makes one"
-DAMAGED = "the site is damaged: restore it as the guide says under `A damaged site`"
-NO_FILE = "not a regular file: " + DAMAGED
+DAMAGED = "the site is damaged: `cadf-sync --repair SITE/ HOST:SITE` mends it, or restore it as the guide says under `A damaged site`"
+LOST = "the site is damaged: restore it as the guide says under `A damaged site`"  # which names its windows no more
+NO_FILE = "not a regular file: "
 NOT_ITS_FAULT = (errno.EMFILE, errno.ENFILE, errno.ENOMEM)  # of a file that can't be opened now
 OTHER_CONTENT = "it holds something else than its name says: " + DAMAGED
 
@@ -215,13 +216,14 @@ class Folder:
         except OSError as fault:
             if fault.errno in NOT_ITS_FAULT:
                 raise
-            said = NO_FILE if fault.errno in (errno.ELOOP, errno.EINVAL, errno.EISDIR) else fault.strerror
+            is_other = fault.errno in (errno.ELOOP, errno.EINVAL, errno.EISDIR)
+            said = NO_FILE + (LOST if name == INDEX else DAMAGED) if is_other else fault.strerror
             raise Fault("%s: %s" % (self.shown(name), said)) from None
 
     def input(self, name):
         """A file of the folder as an input. Raises FileNotFoundError if it isn't there."""
         with self.reading(name):
-            return Input(self.path(name), opened_file(name, os.O_NOFOLLOW, self.descriptor))
+            return Input(self.path(name), opened_file(name, os.O_NOFOLLOW, self.descriptor), damaged=DAMAGED)
 
     def index(self):
         """What `site` says, or None if it isn't there. It is read once, until another file has its name or it is written to."""
@@ -239,7 +241,7 @@ class Folder:
                 self.files.close()  # the one read stays open, so that no other file gets its number
                 self.files = files.pop_all()
         if self.read[1] is None:
-            raise Fault("%s: not the file of a site: %s" % (self.shown(INDEX), DAMAGED), REFUSED)
+            raise Fault("%s: not the file of a site: %s" % (self.shown(INDEX), LOST), REFUSED)
         return self.read[1]
 
     def is_of(self, part, fault):
@@ -275,7 +277,7 @@ class Folder:
     def no_site(self):
         """The fault that `site` isn't there. It was lost if files of windows are: a first take, which may be at work, writes it before them."""
         if any(map(WINDOW_FILE.fullmatch, os.listdir(self.descriptor))) and not self.is_site():
-            return Fault("%s: it is not there, and files of windows are: %s" % (self.shown(INDEX), DAMAGED), REFUSED)
+            return Fault("%s: it is not there, and files of windows are: %s" % (self.shown(INDEX), LOST), REFUSED)
         return Fault("%s: %s" % (self.shown(), NO_SITE), REFUSED)
 
 
@@ -387,6 +389,34 @@ def check_window(index, entry, file):
     """Raises why a file of a folder is refused, or that it holds something else than its name says."""
     if list(parts_in(index.unit, index.name(), [file]).items()) != [entry]:
         raise Fault("%s: %s" % (file.name, OTHER_CONTENT), REFUSED)
+
+
+def fault_of(folder, index, entry):
+    """Why a file that a folder's `site` names is refused, or None."""
+    try:
+        file = folder.input(file_name(*entry))
+    except FileNotFoundError:
+        return Fault("%s: not there: %s" % (folder.shown(file_name(*entry)), DAMAGED))
+    except Fault as fault:
+        return fault
+    with file.file:
+        try:
+            return check_window(index, entry, file)
+        except Fault as fault:
+            return fault
+
+
+def judged(folder):
+    """What a folder's `site` says, and why files that it names are refused, by part and digest, as it stood at one moment."""
+    faults = {}
+    for _ in range(TRIES):
+        index = folder.site()
+        for entry in index.entries():
+            if entry not in faults:
+                faults[entry] = fault_of(folder, index, entry)
+        if folder.site().lines == index.lines:
+            return index, {entry: faults[entry] for entry in index.entries() if faults[entry]}
+    raise Fault(CHANGED % folder.shown())
 
 
 def check_labels(unit, log, labels, inputs):
@@ -532,7 +562,7 @@ class Taking:
 
     def digests(self, part):
         """The digests of the files of a part."""
-        return self.changed.get(part) or self.index.digests(part)
+        return self.changed[part] if part in self.changed else self.index.digests(part)
 
     # What else is in the folder
 
@@ -619,7 +649,7 @@ class Taking:
         except FileNotFoundError:
             raise Fault("%s: not there: %s" % (self.folder.shown(name), DAMAGED)) from None
         if not stat.S_ISREG(found.st_mode):
-            raise Fault("%s: %s" % (self.folder.shown(name), NO_FILE))
+            raise Fault("%s: %s%s" % (self.folder.shown(name), NO_FILE, DAMAGED))
         return found.st_size
 
     def sizes(self, part):

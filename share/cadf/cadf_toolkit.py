@@ -346,11 +346,11 @@ def site_name(text):
 class Input:
     """A regular file that is open for reading, and its name. `cadf` is given its descriptor, so it reads the file that was judged.
 
-    `advice` is what to do if it is refused, if it is no file of the caller's.
+    `advice` is what to do if it is refused, if it is no file of the caller's, and `damaged` if it is damaged.
     """
 
-    def __init__(self, name, file, advice=None):
-        self.name, self.file, self.advice = name_shown(name), file, advice
+    def __init__(self, name, file, advice=None, damaged=DAMAGED):
+        self.name, self.file, self.advice, self.damaged = name_shown(name), file, advice, damaged
 
     def path(self):
         path = "/dev/fd/%d" % self.file.fileno()
@@ -527,7 +527,8 @@ def with_advice(text):
 def explained(said, which):
     """What `cadf` said of an input, or what else than a file of facts it is, with what to do next."""
     is_lost = which and said == "not JSON" and which.name.endswith(".cadf")  # as a site's file that a shell has emptied
-    return (which.kind() if which and OF_NO_KIND.match(said) else None) or (said + ": " + DAMAGED if is_lost else with_advice(said))
+    text = (which.kind() if which and OF_NO_KIND.match(said) else None) or (said + ": " + DAMAGED if is_lost else with_advice(said))
+    return text.replace(DAMAGED, which.damaged) if which else text
 
 
 @contextlib.contextmanager

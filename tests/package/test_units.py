@@ -23,8 +23,9 @@ INSTANCE = "audit"
 OLDEST = 250  # the first systemd-analyze that judges files in a folder
 SERVICE, TIMER = "cadf-spool@.service", "cadf-spool@.timer"
 FOLDERS = "cadf-spool-folders@.service"
-SYNC, SETTLE, TIMERS = "cadf-sync@.service", "cadf-settle@.service", (TIMER, "cadf-sync@.timer", "cadf-settle@.timer")
-MOST_EXPOSED = {SERVICE: 0.5, SETTLE: 0.5, SYNC: 1.2, "cadf-listen@.service": 2.5, FOLDERS: 1.2}  # of 10, for each service
+SYNC, SETTLE, SCRUB = "cadf-sync@.service", "cadf-settle@.service", "cadf-scrub@.service"
+TIMERS = (TIMER, "cadf-sync@.timer", "cadf-settle@.timer", "cadf-scrub@.timer")
+MOST_EXPOSED = {SERVICE: 0.5, SETTLE: 0.5, SCRUB: 0.5, SYNC: 1.2, "cadf-listen@.service": 2.5, FOLDERS: 1.2}  # of 10, for each service
 # What docs/OPERATING.md says of them: no capability, network or device; two folders to write to; each five minutes. A run
 # of an input of 2^30 bytes takes four times as much memory.
 SAID = [
@@ -39,6 +40,9 @@ SAID = [
     (SETTLE, "Service", "CapabilityBoundingSet", ""), (SETTLE, "Service", "PrivateNetwork", "yes"),
     (SETTLE, "Service", "ProtectSystem", "strict"), (SETTLE, "Service", "StateDirectory", "cadf/%i"),
     ("cadf-settle@.timer", "Timer", "OnCalendar", "*-*-* 03:00"),
+    (SCRUB, "Service", "CapabilityBoundingSet", ""), (SCRUB, "Service", "PrivateNetwork", "yes"),
+    (SCRUB, "Service", "ProtectSystem", "strict"), (SCRUB, "Service", "StateDirectory", "cadf/%i"),
+    ("cadf-scrub@.timer", "Timer", "OnCalendar", "*-*-* 04:00"),
 ]
 
 
@@ -142,11 +146,13 @@ def test_words(cadf, tmp_path):
     """The tools take the words of the units, over folders of the test's own: what came twice is one file of each window then."""
     spool, site = tmp_path / "spool", tmp_path / "site"
     spool.mkdir()
-    places = {"%i": "g", "/var/lib/cadf/%i/site": str(site), "/var/spool/cadf/%i": str(spool)}
+    places = {"%i": "g", "/var/lib/cadf/%i/site": str(site), "/var/lib/cadf/%i/site/": str(site) + "/", "/var/spool/cadf/%i": str(spool)}
     for name in ("north.json", "south.json"):
         shutil.copy(os.path.join(VECTORS, name), spool)
         runs_line(SERVICE, places, cadf)
     runs_line(SETTLE, places, cadf)
+    runs_line(SCRUB, places, cadf)
+    assert b"\nS " in (site / ".state").read_bytes()
     named = [line.split()[1] for line in (site / "site").read_text().splitlines() if line.startswith("F ")]
     assert len(named) > 1 and sorted(named) == sorted(set(named))
     agreed = ended(os.path.join(TOP, "tools", "cadf-agree"), [str(site), os.path.join(VECTORS, "both.cadf")], env={**os.environ, "CADF": cadf})

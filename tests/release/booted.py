@@ -220,6 +220,13 @@ def settles(trial):
     trial.say("the site is settled", status == 0 and len(named) == len(set(named)) > 0 and atoms() == before, said + journal("cadf-settle@audit"))
 
 
+def scrubs(trial):
+    """The timer's unit reads a share of the site, and keeps when."""
+    runs_lines(trial, "OPERATING.md", "systemctl enable --now cadf-scrub@audit.timer")
+    status, said = run("systemctl", "start", "cadf-scrub@audit.service")
+    trial.say("the site is scrubbed", status == 0 and "\nS " in text_of(SITE, ".state"), said + journal("cadf-scrub@audit"))
+
+
 def exchanges(trial):
     """The unit of the exchange, with a peer that is a site of this machine, so that it needs no sshd."""
     peer = "/var/lib/cadf/audit/peer.cadf"
@@ -288,6 +295,7 @@ def inside(kills):
         survives(trial, kills)
         listens(trial)
         settles(trial)
+        scrubs(trial)
         exchanges(trial)
         upgrades(trial)
         goes(trial)

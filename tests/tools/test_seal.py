@@ -332,7 +332,7 @@ def test_damaged_windows(seals):
     seals.site.takes(contents(0, 2))
     one, other = (seals.files(part)[0] for part in ("2024-02-29", "2024-03-01"))
     held = open(one, "rb").read(), open(other, "rb").read()
-    for data, said in [(held[0].replace(b"read", b"reap"), "digest: the file is damaged"), (b"", "not JSON"),
+    for data, said in [(held[0].replace(b"read", b"reap"), "digest: the site is damaged"), (b"", "not JSON"),
                        (held[1], "it holds something else than its name says: ")]:
         open(one, "wb").write(data)
         status, output, lines = seals.run("site")

@@ -306,7 +306,7 @@ def test_damaged_site(proofs):
     with open(path, "wb") as file:
         file.write(data.replace(b"read", b"reap"))
     status, output, said = proofs.run("--prove", proofs.facts(ASKED), "site")
-    assert (status, output) == (1, b"") and "digest: the file is damaged" in said[0]
+    assert (status, output) == (1, b"") and "digest: the site is damaged" in said[0]
     assert proofs.run("--prove", proofs.facts(LATER), "site")[0] == 0  # of which it isn't read
 
 

@@ -434,7 +434,7 @@ def test_links_are_refused(site, name):
     path.rename(site.path / "moved")
     path.symlink_to(site.path / "moved")
     if name != ".lock":
-        with pytest.raises(cadf_toolkit.Fault, match="not a regular file: the site is damaged: restore it"), opened(site):
+        with pytest.raises(cadf_toolkit.Fault, match="not a regular file: the site is damaged: `cadf-sync --repair "), opened(site):
             pass
     answer = site.take(files=[site.put(contents(3))])
     assert answer.status == 3 and str(path).encode() in answer.error
@@ -486,7 +486,7 @@ def test_a_damaged_window_is_no_fault_of_what_is_taken(site):
         site.takes(contents(5), by=())
         answer = site.take(*options, files=files)
         assert answer.status == (3 if files else 0)
-        assert not files or answer.error.startswith(b"cadf-take: %s: digest: the file is damaged" % os.fsencode(path))
+        assert not files or answer.error.startswith(b"cadf-take: %s: digest: the site is damaged" % os.fsencode(path))
     assert before.items() - {("site", before["site"])} <= site.listed().items()
 
 
@@ -505,7 +505,7 @@ def test_what_a_lost_file_held_is_held_no_more(site, damage, said):
     damage(path)
     before = (site.folder / "site").read_bytes()
     answer = site.take(files=[site.put(first)])
-    assert answer == (3, b"", b"cadf-take: %s: %s: the site is damaged: restore it as the guide says under `A damaged site`\n" % (os.fsencode(path), said))
+    assert answer == (3, b"", b"cadf-take: %s: %s: the site is damaged: `cadf-sync --repair SITE/ HOST:SITE` mends it, or restore it as the guide says under `A damaged site`\n" % (os.fsencode(path), said))
     assert (site.folder / "site").read_bytes() == before
     site.takes(contents(5), by=())
     assert len(site.files()["2024-03-01"]) == 2
@@ -753,7 +753,7 @@ def test_settling_names_the_lost_file_of_a_window_that_has_one(site):
     site.takes(contents(0), contents(2), contents(5))
     path = next(site.folder.glob("2024-02-29.*"))
     path.unlink()
-    line = "cadf-take: left out 2024-02-29: %s: not there: the site is damaged: restore it as the guide says under `A damaged site`\n" % path
+    line = "cadf-take: left out 2024-02-29: %s: not there: the site is damaged: `cadf-sync --repair SITE/ HOST:SITE` mends it, or restore it as the guide says under `A damaged site`\n" % path
     assert site.take("--settle") == (1, b"", line.encode())
     assert {part: len(files) for part, files in site.files().items() if files} == {"2024-02-29": 1, "2024-03-01": 1}
 

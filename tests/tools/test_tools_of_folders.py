@@ -117,7 +117,7 @@ def test_which_judges_each_file(sites):
     one, other = sorted(sites.north.folder.glob("2024-*.cadf"))
     held = one.read_bytes(), other.read_bytes()
     one.write_bytes(held[0].replace(b"read", b"reap"))
-    damaged = "digest: the file is damaged: fetch it again, or restore it as the guide says under `A damaged site`"
+    damaged = "digest: the site is damaged: `cadf-sync --repair SITE/ HOST:SITE` mends it, or restore it as the guide says under `A damaged site`"
     said = ["north/%s: %s" % (one.name, damaged), "north: not all of its files can be read"]
     assert sites.run("which", "north") == (1, "", said)
     one.write_bytes(held[1])
@@ -135,7 +135,7 @@ def test_which_names_all_that_is_damaged(sites):
     other.write_bytes(other.read_bytes().replace(b"read", b"reap"))
     status, output, said = sites.run("which", "north")
     assert (status, output, len(said)) == (3, "", 4) and said[3] == "north: not all of its files can be read"
-    for line, file, part in zip(said, (link, one, other), ("not a regular file: the site is damaged", "not there: the site is damaged", "digest: the file is damaged")):
+    for line, file, part in zip(said, (link, one, other), ("not a regular file: the site is damaged", "not there: the site is damaged", "digest: the site is damaged")):
         assert line.startswith("north/%s: %s" % (file.name, part))
 
 
@@ -147,7 +147,8 @@ def test_what_is_in_the_place_of_a_file_of_a_folder_is_damage(sites, make, name)
     path = next(sites.north.folder.glob(name))
     path.unlink()
     make(path)
-    line = "north/%s: not a regular file: the site is damaged: restore it as the guide says under `A damaged site`" % path.name
+    mends = "" if name == "site" else "`cadf-sync --repair SITE/ HOST:SITE` mends it, or "
+    line = "north/%s: not a regular file: the site is damaged: %srestore it as the guide says under `A damaged site`" % (path.name, mends)
     for tool in ("which", "conflicts", "events", "seal"):
         status, output, said = sites.run(tool, "north")
         is_whole = tool == "which" or name == "site"  # the other windows are read without this one
@@ -354,7 +355,7 @@ def test_a_damaged_window_lets_what_arrives_wait(sites):
     arrives(sites, "a.json", contents(3))
     arrives(sites, "b.json", contents(5))
     status, _, said = sites.run("spool", "north", "spool")
-    assert status == 3 and any("a.json: waits: " in line and "digest: the file is damaged" in line for line in said)
+    assert status == 3 and any("a.json: waits: " in line and "digest: the site is damaged" in line for line in said)
     assert (sites.path / "spool" / "taking" / "a.json").exists() and (sites.path / "spool" / "taken" / "b.json").exists()
 
 
@@ -375,7 +376,7 @@ def test_spool_keeps_what_begins_many_windows(sites):
     (test_agree_reads_windows_that_differ, "if own.keys() != others.keys():", "if True:"),
     (test_agree_of_windows_of_several_files, "[*site.inputs, sketch.input], len(site.inputs))", "[site.inputs[0], sketch.input])"),
     (test_which_judges_each_file, "if found != [entry]:", "if False:"),
-    (test_which_names_all_that_is_damaged, "return Fault(\"%s: not there: %s\"", "raise Fault(\"%s: not there: %s\""),
+    (test_which_names_all_that_is_damaged, "        return Fault(\"%s: not there: %s\"", "        raise Fault(\"%s: not there: %s\""),
     (test_a_key_of_two_windows_is_open, "for fact in windows.facts:", "for fact in ():"),
     (test_a_damaged_window_lets_what_arrives_wait, "FAILED if fault.status == REFUSED else fault.status", "fault.status"),
     (test_spool_takes_into_a_folder, "if cadf_site.is_folder(self.site):", "if False:"),

@@ -1,0 +1,154 @@
+"""cadf-which --scrub: a share of a folder a night, what it finds, what it keeps, and its numbers."""
+import functools
+import os
+import re
+import time
+
+import pytest
+
+from tests.tools.copies import is_caught
+from tests.tools.test_damage import changed, file_of
+from tests.tools.test_site_folders import EVENT, Site, with_digest
+from tests.tools.test_tools_of_folders import Sites
+
+CLOCK = "import os, time\nnow = time.time\ntime.time = lambda: now() + float(os.environ['CLOCK'])\n"
+DAY = 86400
+DAYS = ["2024-03-%02d" % day for day in range(1, 7)]
+
+
+@pytest.fixture(autouse=True)
+def command(cadf, monkeypatch):
+    """Has the tools run the command that is tried."""
+    monkeypatch.setattr(Site, "command", cadf)
+
+
+class Scrubs(Sites):
+    """A folder of six days of as many bytes, and nights."""
+
+    def __init__(self, path, *words):
+        super().__init__(path, *words)
+        (path / "sitecustomize.py").write_text(CLOCK)
+        self.environment["PYTHONPATH"] = str(path)
+        self.at(0)
+        self.north.takes({"id": "g", "events": [dict(EVENT, id="e", eventTime=day + "T00:00:00Z") for day in DAYS]})
+
+    def at(self, night):
+        self.environment["CLOCK"] = str(DAY * night)
+
+    def scrub(self, night, *words):
+        self.at(night)
+        return self.run("which", "--scrub", *words, "north/")
+
+    def numbers(self):
+        return {name: int(value) for name, value in re.findall(r"(?m)^cadf_(\w+){.*} (\d+)$", (self.path / "m.prom").read_text())}
+
+    def state(self):
+        """The lines of the state, by letter and part."""
+        data = (self.north.folder / ".state").read_bytes()
+        assert data.startswith(b"CADF-STATE 1\n") and data == with_digest(data[:data.rfind(b"Z ")])
+        found = [line.split(" ") for line in data.decode().splitlines()[1:-1]]
+        assert {(line[1], line[2]) for line in found if line[0] == "S"} <= {(part, digest) for part, digests in self.north.files().items() for digest in digests}
+        return {(line[0], line[1]): int(line[3]) for line in found}
+
+
+@pytest.fixture
+def scrubs(tmp_path):
+    return Scrubs(tmp_path)
+
+
+def test_a_share_a_night(scrubs):
+    """Three nights read all of it, a third each, and the fourth what the first has read."""
+    nights = []
+    for night in range(1, 5):
+        assert scrubs.scrub(night, "--share", "1/3", "--metrics", "m.prom") == (0, "", [])
+        nights.append(scrubs.read())
+        since = time.time() + DAY * max(0, night - 2) if night > 2 else file_of(scrubs.north, DAYS[0]).stat().st_mtime
+        assert abs(scrubs.numbers()["oldest_scrub_timestamp_seconds"] - since) < DAY / 2 and scrubs.numbers()["damaged_windows"] == 0
+    assert [len(read) for read in nights] == [2, 2, 2, 2] and set.union(*nights[:3]) == set(DAYS) and nights[3] == nights[0]
+    assert set(scrubs.state()) == {("S", day) for day in DAYS}
+
+
+def test_damage_is_named_each_night(scrubs):
+    """Until it is mended, beside the share; no night is used up by it. The time is that of the night that found it."""
+    assert scrubs.scrub(1) == (0, "", []) and scrubs.read() == set(DAYS)
+    path = file_of(scrubs.north, DAYS[0])
+    data = path.read_bytes()
+    changed(path)
+    seen = set()
+    for night in range(2, 8):
+        status, output, lines = scrubs.scrub(night, "--share", "1/6", "--metrics", "m.prom")
+        seen |= scrubs.read() - {DAYS[0]}
+        is_found = night > 2 or DAYS[0] in scrubs.read()
+        assert (status, output, len(lines), scrubs.numbers()["damaged_windows"]) == (is_found, "", is_found, is_found), lines
+        assert not is_found or lines[0].startswith("north/%s: digest: " % path.name)
+    assert seen == set(DAYS[1:])
+    path.unlink()
+    status, _, lines = scrubs.scrub(8, "--share", "1/6")
+    assert status == 1 and lines == ["north/%s: not there: the site is damaged: `cadf-sync --repair SITE/ HOST:SITE` mends it, or restore it as the guide says under `A damaged site`" % path.name]
+    assert ("D", DAYS[0]) in scrubs.state() and abs(scrubs.state()["D", DAYS[0]] - time.time() - 2 * DAY) < DAY / 2
+    path.write_bytes(data)
+    assert scrubs.scrub(9, "--share", "1/6", "--metrics", "m.prom")[0] == 0 and scrubs.numbers()["damaged_windows"] == 0
+    assert ("D", DAYS[0]) not in scrubs.state()
+
+
+def test_a_clock_that_was_ahead(scrubs):
+    """What was seen in a time that is still to come was seen never: all is read again, and the numbers say so."""
+    assert scrubs.scrub(5000)[0] == 0
+    assert scrubs.scrub(1, "--share", "1/6", "--metrics", "m.prom") == (0, "", [])
+    assert len(scrubs.read()) == 1 and abs(scrubs.numbers()["oldest_scrub_timestamp_seconds"] - time.time()) < DAY / 2
+    for path in scrubs.north.folder.glob("2024-*"):
+        os.utime(path, (2 ** 33, 2 ** 33))
+    (scrubs.north.folder / ".state").unlink()
+    assert scrubs.scrub(2, "--share", "1/6", "--metrics", "m.prom") == (0, "", []) and scrubs.numbers()["oldest_scrub_timestamp_seconds"] == 0
+
+
+def test_a_state_that_is_damaged_or_has_more(scrubs):
+    """A damaged one is told, and made anew. Lines of letters that scrubbing doesn't know stay."""
+    state = scrubs.north.folder / ".state"
+    state.write_bytes(with_digest(b"CADF-STATE 1\nX of another\n"))
+    assert scrubs.scrub(1) == (0, "", []) and state.read_bytes().count(b"\nX of another\n") == 1
+    data = state.read_bytes()
+    for wrong in (data[:-1], data.replace(b"S 2024", b"S 2025", 1), b"", with_digest(b"CADF-STATE 2\n")):
+        state.write_bytes(wrong)
+        said = "cadf-which: north/.state: not the file of what a site knows, or damaged: what it had is not known any more"
+        status, output, lines = scrubs.scrub(2)
+        assert (status, output, set(lines)) == (0, "", {said}) and set(scrubs.state()) == {("S", day) for day in DAYS}
+    (scrubs.north.folder / ".state.new").write_text("what a kill has left")
+    assert scrubs.scrub(3) == (0, "", []) and not (scrubs.north.folder / ".state.new").exists()
+
+
+def test_files_that_go_meanwhile(scrubs):
+    """A take that joins what is being read: no file of it is damaged, and those that went are kept no longer."""
+    more = [scrubs.north.put({"id": "g", "events": [dict(EVENT, id=str(number), eventTime=DAYS[0] + "T00:00:00Z")]}) for number in range(7)]
+    scrubs.north.take(files=more[:1])
+    assert scrubs.scrub(1)[0] == 0 and sum(key[0] == "S" for key in scrubs.state()) == 6
+    late = scrubs.path / "late"
+    late.write_text("#!/bin/sh\nmkdir %s/once 2>/dev/null && CADF=%s %s --settle north/ && rm -f %s && CADF=%s %s north/ %s\nexec %s \"$@\"\n" % (
+        scrubs.path, Site.command, os.path.join(scrubs.tools, "cadf-take"), " ".join(map(str, scrubs.north.folder.glob(DAYS[0] + ".*"))),
+        Site.command, os.path.join(scrubs.tools, "cadf-take"), more[1], Site.command))
+    late.chmod(0o755)
+    scrubs.environment["CADF"] = str(late)
+    assert scrubs.scrub(2) == (0, "", []) and (scrubs.path / "once").is_dir()
+
+
+@pytest.mark.parametrize("words, said", [
+    (["--scrub", "--share", "2/1", "north/"], "not a share, as 1/30"), (["--scrub", "--share", "0/1", "north/"], "not a share, as 1/30"),
+    (["--share", "1/2", "north/"], "--share and --metrics go with --scrub"), (["--scrub", "north/", "south/"], "--scrub goes with one SITE, --share and --metrics"),
+    (["--scrub", "--log", "g", "north/"], "--scrub goes with one SITE, --share and --metrics")])
+def test_words(scrubs, words, said):
+    status, output, lines = scrubs.run("which", *words)
+    assert (status, output) == (2, "") and lines[-1].endswith(said)
+
+
+def test_a_file_is_no_folder(scrubs):
+    assert scrubs.run("which", "--scrub", "1.json") == (3, "", ["cadf-which: 1.json: Not a directory: `cadf-take --by day NEW/ 1.json` makes a folder of a site's file"])
+
+
+@pytest.mark.parametrize("check, right, wrong", [
+    (test_a_share_a_night, "(entry not in self.damaged, self.seen[entry])", "self.damaged"),
+    (test_damage_is_named_each_night, "            if entry in self.damaged:\n                yield entry\n            elif left", "            if left"),
+    (test_damage_is_named_each_night, "times.setdefault((DAMAGED, *entry), self.now)", "times[(DAMAGED, *entry)] = self.now"),
+    (test_a_clock_that_was_ahead, "if at <= self.now), 0)", "), 0)"),
+])
+def test_a_wrong_version_is_caught(tmp_path, check, right, wrong):
+    is_caught(tmp_path, (right, wrong), check, functools.partial(Scrubs, tmp_path))
