@@ -22,8 +22,9 @@ use Rattle.cadf_tool.specs.declared.input.Loaded.{Loaded}
 use Rattle.cadf_tool.specs.Input.{IsInput}
 use Rattle.cadf_tool.specs.Told.{replica_model_of}
 use Rattle.cadf_tool.specs.Join.{join_of}
-use Rattle.cadf_tool.specs.Exchange.{Joined, Kept, Files, End, File, is_in_part, IsByCarrier, IsResult, IsDerived, brought, brought_by}
-use Rattle.cadf_tool.specs.Folders.{Folder, and_files, all_files, IsFolderOf, HasParts, IsTaken}
+use Rattle.cadf_tool.specs.Exchange.{Joined, Kept, Delta, Files, End, File, is_in_part, IsByCarrier, IsResult, IsDerived, brought, brought_by}
+use Rattle.cadf_tool.specs.Folders.{Folder, and_files, all_files, IsFolderOf, HasParts, IsTaken, IsSent, IsExchanged}
+use Rattle.cadf_tool.specs.Folders.{History, Begun, Took, Exchanged, arrived, IsFolderAfter, AreFilesAfter}
 use Rattle.cadf_tool.proofs.Unions.{join_one}
 use Rattle.cadf_tool.proofs.InputUnions.{loaded_file}
 use Rattle.cadf_tool.proofs.ExchangeWithin.{result_kept}
@@ -133,3 +134,57 @@ module _ (unit : Unit) (at : Folder) (s : Contents) (is : IsFolderOf unit at s) 
 
   pub folder_together : (ks : List Text) → HasParts unit ks s → brought_by (all_files at ks) ≡ s
   folder_together ks all = same_sets _ _ (of_all_files ks) (λ q h. in_all_files ks q (all (key unit q) (key_listed (key unit) s q h)) h)
+
+-- ---- exchanges
+
+-- a set that is within another adds nothing to it
+adds_nothing : (s t : Contents) → IsWithin s t → t ≡ set.union s t
+adds_nothing s t within =
+    same_sets t (set.union s t) (λ q h. members.in_union_right texts_total texts_same s t q h)
+    (λ q h. elim (members.of_union texts_total texts_same s t q h) [
+      | inl g ↦ within q g
+      | inr g ↦ g
+    ])
+
+joined_alone : (given : Option Text) (files : Files) → brought_by (File (Joined given files) End) ≡ brought_by files
+joined_alone given files = laws.union-empty texts_total texts_same (brought_by files)
+
+joined_both : (given : Option Text) (files more : Files) → brought_by (File (Joined given (and_files files more)) End)
+    ≡ set.union (brought_by files) (brought_by more)
+joined_both given files more = joined_alone given (and_files files more) ∙ of_both files more
+
+sent_brings : (theirs sent : Files) → IsSent theirs sent → brought_by sent ≡ brought_by theirs
+sent_brings theirs sent (inl e) = ap brought_by e
+sent_brings theirs sent (inr (means, to, e)) = ap brought_by e ∙ laws.union-empty texts_total texts_same (brought_by theirs)
+
+exchange_brings : (theirs old new : Files) → IsExchanged theirs old new → brought_by new ≡ set.union (brought_by theirs) (brought_by old)
+exchange_brings theirs old new (inl (sent, is, inl (given, e))) =
+    ap brought_by e ∙ joined_both given sent old ∙ ap (λ t. set.union t (brought_by old)) (sent_brings theirs sent is)
+exchange_brings theirs old new (inl (sent, is, inr (none, e))) =
+    ap brought_by e ∙ sent_brings theirs sent is ∙ sym (laws.union-empty texts_total texts_same (brought_by theirs))
+    ∙ ap (set.union (brought_by theirs)) (ap brought_by (sym none))
+exchange_brings theirs old new (inr (within, e)) = ap brought_by e ∙ adds_nothing (brought_by theirs) (brought_by old) within
+
+pub exchanged_folder : (unit : Unit) (theirs old new : Folder) (t s : Contents) → IsFolderOf unit theirs t → IsFolderOf unit old s
+    → ((k : Text) → IsExchanged (theirs k) (old k) (new k)) → IsFolderOf unit new (set.union t s)
+exchanged_folder unit theirs old new t s is was exchanged k =
+    exchange_brings (theirs k) (old k) (new k) (exchanged k)
+    ∙ ap (λ u. set.union u (brought_by (old k))) (is k)
+    ∙ ap (set.union (part unit k t)) (was k)
+    ∙ sym (part-union (key unit) k t s)
+
+-- ---- histories
+
+pub folder_after : (unit : Unit) (h : History) (at : Folder) → IsFolderAfter unit h at → IsFolderOf unit at (arrived h)
+folder_after unit Begun at none = λ k. ap brought_by (none k) ∙ empty_folder unit k
+folder_after unit (Took log files own) at (old, was, taken) = taken_folder unit log files old at (arrived own) (folder_after unit own old was) taken
+folder_after unit (Exchanged other own) at (theirs, old, is, was, exchanged) =
+    exchanged_folder unit theirs old at (arrived other) (arrived own) (folder_after unit other theirs is) (folder_after unit own old was) exchanged
+
+pub files_after : (h : History) (files : Files) → AreFilesAfter h files → brought_by files ≡ arrived h
+files_after Begun files none = ap brought_by none
+files_after (Took log more own) files (old, was, e) =
+    ap brought_by e ∙ joined_both log more old ∙ ap (set.union (brought_by more)) (files_after own old was)
+files_after (Exchanged other own) files (theirs, old, is, was, given, e) =
+    ap brought_by e ∙ joined_both given theirs old ∙ ap (λ t. set.union t (brought_by old)) (files_after other theirs is)
+    ∙ ap (set.union (arrived other)) (files_after own old was)

@@ -21,7 +21,8 @@ ghost use Rattle.cadf_tool.specs.Join.{join_of};
 ghost use Rattle.cadf_tool.specs.Shown.{HaveSameOutput};
 ghost use Rattle.cadf_tool.specs.Exchange.{Derivation, Joined, Kept, Files, End, File, is_in_part, IsResult, IsDerived};
 ghost use Rattle.cadf_tool.specs.Exchange.{IsExchange, IsExact, AreExact, brought, brought_by, log_of, first_log};
-ghost use Rattle.cadf_tool.specs.Folders.{Folder, all_files, IsFolderOf, HasParts, IsTaken};
+ghost use Rattle.cadf_tool.specs.Folders.{Folder, all_files, IsFolderOf, HasParts, IsTaken, IsExchanged};
+ghost use Rattle.cadf_tool.specs.Folders.{History, arrived, IsFolderAfter, AreFilesAfter};
 
 /// States that what a split file has of a part, after the line with its name, is byte for byte what `join` writes of the
 /// part.
@@ -61,4 +62,18 @@ pub fn folders_are_their_union()
     ensures told { (unit : Unit) (at : Folder) (keys : List Text) (m : Derivation) (h k : ReplicaModel) → IsFolderOf unit at (brought m)
         → HasParts unit keys (brought m) → IsExchange (Joined None (all_files at keys)) → AreExact (all_files at keys) → IsExchange m → IsExact m
         → first_log (all_files at keys) ≡ log_of m → IsResult (Joined None (all_files at keys)) h → IsResult m k → HaveSameOutput h k }
+{}
+
+/// States that exchanges part by part leave what exchanges of whole files would have left: after the same history of takes
+/// and of exchanges, which end with all that the other site has, a folder holds what one file would.
+pub fn exchanges_by_windows_are_whole()
+    ensures exchanged { (unit : Unit) (theirs old new : Folder) (t s : Contents) → IsFolderOf unit theirs t → IsFolderOf unit old s
+        → ((k : Text) → IsExchanged (theirs k) (old k) (new k)) → IsFolderOf unit new (set.union t s) }
+    ensures folder { (unit : Unit) (h : History) (at : Folder) → IsFolderAfter unit h at → IsFolderOf unit at (arrived h) }
+    ensures file { (h : History) (files : Files) → AreFilesAfter h files → brought_by files ≡ arrived h }
+    // So the log, the list of conflicts and the file of the one are those of the other, byte for byte.
+    ensures told { (unit : Unit) (h : History) (at : Folder) (files : Files) (keys : List Text) (a b : ReplicaModel) → IsFolderAfter unit h at
+        → AreFilesAfter h files → HasParts unit keys (arrived h) → IsExchange (Joined None (all_files at keys)) → AreExact (all_files at keys)
+        → IsExchange (Joined None files) → AreExact files → first_log (all_files at keys) ≡ first_log files
+        → IsResult (Joined None (all_files at keys)) a → IsResult (Joined None files) b → HaveSameOutput a b }
 {}
