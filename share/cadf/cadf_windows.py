@@ -91,7 +91,7 @@ class NoSite:
     def digests(self, *_):
         return {}
 
-    def files(self, _):
+    def files(self, *_):
         return contextlib.nullcontext([])
 
 
@@ -123,9 +123,11 @@ class FileSite:
                 self.parts[part] = store.item(part, "facts"), last
 
     @contextlib.contextmanager
-    def files(self, part):
-        """The files of a part as inputs: one, or none."""
-        if part == ALL:
+    def files(self, part, only=None):
+        """The files of a part as inputs: one, or none; of a folder's file of certain digits always none."""
+        if only is not None:
+            yield []
+        elif part == ALL:
             yield [self.input]
         elif part not in self.parts:
             yield []
@@ -178,10 +180,10 @@ class FolderSite:
             raise Damaged(str(fault), fault.status) from None
 
     @contextlib.contextmanager
-    def files(self, part):
-        """The files of a part as inputs."""
+    def files(self, part, only=None):
+        """The files of a part as inputs; or the one of these digits, if `site` names it."""
         with self.opened(part) as inputs:
-            yield list(inputs.values())
+            yield [each for (_, digest), each in inputs.items() if only in (None, digest)]
 
 
 def is_wanted(part, since):

@@ -44,7 +44,7 @@ REFERENCE = os.path.join(TOP, "tests", "reference", "cadf")
 FAR = os.path.join(TOP, "tests", "tools", "far_side.py")
 MOST_DIFFERING, MOST_EQUAL, MOST_TURNS = 100000, 40000, 6  # bytes both ways beyond the answers, turns of the line
 CUTS, MADE_AGAIN = 50, 5  # random bytes at which a link is cut; each of so many calls is made again
-FIRST = b'CADF-SYNC 1 {"facts":67108864,"keeps":true,"limit":1073741824,"log":"g","next":true,"timeout":60,"unit":null,"windows":400,"writes":true}\n'
+FIRST = b'CADF-SYNC 1 {"facts":67108864,"file":true,"keeps":true,"limit":1073741824,"log":"g","next":true,"timeout":60,"unit":null,"windows":400,"writes":true}\n'
 # Tools that know messages of few bytes, so that few facts make many of them, and whose commands may note their calls.
 TRIED = ("LEAST = 2 ** 20", "LEAST = 2 ** 10", "        change_only(None)\n", "")
 EVENT = {"eventType": "activity", "action": "read", "outcome": "success", "initiatorId": "u1", "targetId": "t1",
@@ -907,6 +907,7 @@ def test_a_folder_whose_first_take_ended_early_is_made(folders):
 
 
 DAMAGED = "digest: the file is damaged: fetch it again, or restore it as the guide says under `A damaged site`\n"
+WINDOW = "digest: the site is damaged: `cadf-sync --repair SITE/ HOST:SITE` mends it, or restore it as the guide says under `A damaged site`\n"
 
 
 def test_a_damaged_file_is_named_where_it_is(folders):
@@ -930,7 +931,7 @@ def replaced(path):
     shutil.copyfile(next(path.parent.glob("2024-03-02.*")), path)
 
 
-DAMAGES = {"changed": (changed, DAMAGED), "gone": (os.unlink, "not there: the site is damaged: "), "another": (replaced, "it holds something else than its name says: "),
+DAMAGES = {"changed": (changed, WINDOW), "gone": (os.unlink, "not there: the site is damaged: "), "another": (replaced, "it holds something else than its name says: "),
            "a link": (linked, "not a regular file: the site is damaged: ")}
 
 
@@ -952,7 +953,7 @@ def test_a_damaged_window_is_left_out(folders, way, damaged, kind):
     assert answer.status == 1 and b"; 2 of 4 windows differed; 1 were left out; " in answer.output, answer
     lines = said(answer).splitlines(True)
     assert lines[0].startswith("cadf-sync: left out %s: %s%s%s: %s" % (window, "there/: " if damaged == "there/" else "", damaged, each, part)), answer
-    assert lines[1:] == ["cadf-sync: left out 1 of 2 windows that differ: mend each at the end that its line names, or restore it as the guide says under `A damaged site`, and make the call again\n"]
+    assert lines[1:] == ["cadf-sync: left out 1 of 2 windows that differ: mend each at the end that its line names, by cadf-sync --repair or as the guide says under `A damaged site`, and make the call again\n"]
     (folders.path / damaged / each).unlink(missing_ok=True)
     (folders.path / damaged / each).write_bytes(data)
     for name in old:
@@ -976,7 +977,7 @@ def test_a_damaged_window_of_several_files_is_left_out(folders, way, damaged):
     changed(path)
     answer = folders.sync(way, "here/", "there/")
     peer = "there/: " if damaged == "there/" else ""
-    assert answer.status == 1 and said(answer).startswith("cadf-sync: left out 2024-03-02: %s%s: %s" % (peer, path.relative_to(folders.path), DAMAGED)), answer
+    assert answer.status == 1 and said(answer).startswith("cadf-sync: left out 2024-03-02: %s%s: %s" % (peer, path.relative_to(folders.path), WINDOW)), answer
     assert folders.files("here/").keys() >= {each for each in folders.files("there/") if each.startswith("2024-03-03")} != set()
 
 
