@@ -111,7 +111,7 @@ class Refusal(Fault):
         self.said, self.place = said, place
         which = inputs[place - 1] if place else inputs[-1] if inputs and said == "no log named" else None
         if which and said == "read fault":
-            which.first(1)
+            which.check_readable()
         text = "%s: %s" % (said, which.advice) if which and which.advice else explained(said, which)
         super().__init__("%s: %s" % (which.name, text) if which else text, status)
 
@@ -362,6 +362,15 @@ class Input:
         """The first bytes. Raises the system's words if they can't be read."""
         try:
             return os.pread(self.file.fileno(), count, 0)
+        except OSError as fault:
+            raise Fault("%s: %s" % (self.name, fault.strerror)) from None
+
+    def check_readable(self):
+        """Raises the system's words if it can't be opened as `cadf` opens it, or not be read to its end."""
+        try:
+            with self.reading() as file:
+                while file.read(2 ** 20):
+                    pass
         except OSError as fault:
             raise Fault("%s: %s" % (self.name, fault.strerror)) from None
 

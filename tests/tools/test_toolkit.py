@@ -410,3 +410,14 @@ def test_no_path(tmp_path):
     done = subprocess.run(["", os.path.join(TOP, "tools", "cadf-which"), "d.json"], executable=sys.executable, cwd=tmp_path, stderr=subprocess.PIPE, timeout=60, check=False,
                           env={"CADF": os.path.join(TOP, "tests", "reference", "cadf"), "LC_ALL": "C", "PYTHONUTF8": "0", "PYTHONCOERCECLOCALE": "0"})
     assert (done.returncode, done.stderr) == (0, b"")
+
+
+def test_why_a_file_cannot_be_read(kit, tmp_path, monkeypatch):
+    """The system's words, with the file's name, also where a later byte can't be read, or `cadf` alone can't open it."""
+    with open(tmp_path / "file", "wb+") as file:
+        found = kit.Input("file", file)
+        assert str(kit.Refusal("read fault", kit.FAILED, 1, [found])) == "file: read fault"
+        for path, said in (("/proc/self/mem", "Input/output error"), (str(tmp_path), "Is a directory"), (str(tmp_path / "absent"), "No such file or directory")):
+            monkeypatch.setattr(kit.Input, "path", lambda self, path=path: path)
+            with pytest.raises(kit.Fault, match="^file: %s$" % said):
+                kit.Refusal("read fault", kit.FAILED, 1, [found])
