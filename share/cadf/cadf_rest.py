@@ -32,12 +32,15 @@ class Parts:
 
 
 class Rest:
-    """The limits of a take that leaves what is beyond them to files: the limits, the files, and how many inputs in turn each sender has."""
+    """The limits of a take that leaves what is beyond them to files: the limits, the files, and how many inputs in turn each sender has.
+
+    `each` says how many windows each sender may begin, and `begun` afterwards of how many of those that were begun each has events.
+    """
 
     def __init__(self, name, most, each, bounds, senders):
         self.most, self.each, self.bounds, self.senders = most, each, bounds, senders
         self.names = [name] if len(senders) == 1 else ["%s.%d" % (name, number) for number in range(1, len(senders) + 1)]
-        self.apart, self.left = Parts(), []
+        self.apart, self.left, self.begun = Parts(), [], []
         for file in filter(os.path.lexists, self.names):
             raise Fault("%s: %s" % (name_shown(file), THERE), USAGE)
 
@@ -55,9 +58,9 @@ class Rest:
     def finished(self, taking, inputs):
         """Takes the windows that are chosen, and has the rest on the disk before the site names them. A take that fails leaves no rest."""
         new = [part for part in self.apart.items if self.bounds.has(part)]
-        is_all = len(new) == len(self.apart.items) and len(new) <= min(self.most, self.each)
-        senders = [self.apart] if is_all or len(self.senders) == 1 else list(self.parts_of_senders(taking, inputs))
+        senders = [self.apart] if len(self.senders) == 1 else list(self.parts_of_senders(taking, inputs)) if self.apart.items else []
         taken = chosen([[part for part in new if part in each.items] for each in senders], self.most, self.each)
+        self.begun = [len(taken.intersection(each.items)) for each in senders] or [0] * len(self.senders)
         for part in sorted(taken):
             for item in self.apart.items[part]:
                 with taking.new_file() as output:

@@ -14,7 +14,7 @@ from cadf_toolkit import Fault, name_shown, wait_for_lock
 PARTS = ("taking", "taken", "set-aside")
 LOCK = ".spool.lock"
 WAITS, REASON = "waits-", ".reason"  # with which the name of a file of facts that wait begins; the ending of why a file is set aside
-SENDERS = ".senders"  # of set-aside/: who sent each file there
+SENDERS = ".senders"  # of set-aside/ and taking/: who sent each file there
 SENDER = re.compile("([0-9]{1,10}) ([^\n]+)\n")
 LONGEST_SENDERS = 2 ** 26  # bytes
 
@@ -101,14 +101,16 @@ class SpoolFolder:
         names = set(self.waiting())
         return sorted(name for name in names if not (name.endswith(REASON) and name[:-len(REASON)] in names))
 
-    def senders(self):
-        """The user of each file in set-aside/, by its name, as far as that was noted."""
-        with contextlib.suppress(FileNotFoundError), open(SENDERS, encoding="utf-8", errors="replace", opener=within(self.aside)) as file:
+    def senders(self, folder=None):
+        """The user of each file in set-aside/, or in another part, by its name, as far as that was noted."""
+        with contextlib.suppress(FileNotFoundError), open(
+                SENDERS, encoding="utf-8", errors="replace", opener=within(self.aside if folder is None else folder)) as file:
             return {name: int(user) for user, name in SENDER.findall(file.read(LONGEST_SENDERS))}
         return {}
 
-    def put_senders(self, senders):
-        """Notes the users of the files that are in set-aside/."""
-        with open(SENDERS + ".new", "w", encoding="utf-8", opener=within(self.aside)) as file:
-            file.writelines("%d %s\n" % (user, name) for name, user in sorted(senders.items()) if is_there(name, self.aside))
-        os.rename(SENDERS + ".new", SENDERS, src_dir_fd=self.aside, dst_dir_fd=self.aside)
+    def put_senders(self, senders, folder=None):
+        """Notes the users of the files that are in set-aside/, or in another part."""
+        folder = self.aside if folder is None else folder
+        with open(SENDERS + ".new", "w", encoding="utf-8", opener=within(folder)) as file:
+            file.writelines("%d %s\n" % (user, name) for name, user in sorted(senders.items()) if is_there(name, folder))
+        os.rename(SENDERS + ".new", SENDERS, src_dir_fd=folder, dst_dir_fd=folder)

@@ -87,9 +87,9 @@ def nearest(windows, at):
 def chosen(wanted, most, each):
     """Which windows are begun, of the lists of what each sender's events are of: the nearest to now first, and the senders in turn.
 
-    At most so many, and of a sender at most so many.
+    At most so many, and of each sender at most so many.
     """
     at = now()
-    turns = itertools.zip_longest(*(nearest(windows, at)[:each] for windows in wanted))
+    turns = itertools.zip_longest(*(nearest(windows, at)[:own] for windows, own in zip(wanted, each)))
     found = dict.fromkeys(window for turn in turns for window in turn if window is not None)
     return set(itertools.islice(found, most))

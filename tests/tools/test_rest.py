@@ -119,6 +119,9 @@ def test_senders_take_turns(place, most, each):
     files = [place.put("1", *many[:5]), place.put("2", *many[5:]), place.put("3", few, both)]
     said = place.takes("--by", "day", "--windows", most, "--sender-windows", each, "--senders", "2,1", "--rest", "rest", "site", *files, status=5)
     assert place.site() == atoms_of(many[8], both, many[0]) and len(said.splitlines()) == 2
+    again = place.put("4", event("new", "2024-06-01T00:00:00Z")), place.put("5", *days("2024-07-01", 3), event("new", "2024-06-01T00:00:00Z"))
+    done = place.run("cadf-take", "--sender-windows", "1,2", "--senders", "1,1", "--rest", "rests", "site", *again)
+    assert (done.status, done.output) == (5, b"begun 1,3\n") and len(place.site()) == 6
     assert place.file("rest.1") == atoms_of(*many[1:8]) and place.file("rest.2") == atoms_of(few)
 
 
@@ -130,7 +133,8 @@ def test_no_rest(place):
 
 @pytest.mark.parametrize("words, status, said", [
     (["--rest", "there", "site", "a"], 2, "there: it is there: name another file"), (["--senders", "1", "site", "a"], 2, "go with --rest"),
-    (["--rest", "r", "--senders", "2", "site", "a"], 2, "--senders has to count the FILEs"), (["--rest", "r", "new.cadf", "a"], 2, "SITE that is a folder"),
+    (["--rest", "r", "--senders", "2", "site", "a"], 2, "--senders has to count the FILEs"),
+    (["--rest", "r", "--senders", "1", "--sender-windows", "1,2", "site", "a"], 2, "a number for all, or one for each sender"), (["--rest", "r", "new.cadf", "a"], 2, "SITE that is a folder"),
     (["--settle", "--rest", "r", "site"], 2, "--settle goes with one SITE"), (["--not-after", "soon", "site", "a"], 2, "not a time"),
     (["--windows", "0", "--rest", "absent/r", "site", "a"], 3, "absent/r")])
 def test_words(place, words, status, said):
@@ -296,8 +300,8 @@ def test_names_on_a_terminal(place):
     (test_bounds_of_time, ["first <= self.not_after", "first < self.not_after - 10 ** 15"]),
     (test_bounds_of_time, ["return part != cadf_site.SHARED and not (is_there and self.bounds.has(part))", "return part != cadf_site.SHARED and not is_there"]),
     (functools.partial(test_senders_take_turns, most="2", each="2"), [
-        "itertools.zip_longest(*(nearest(windows, at)[:each] for windows in wanted))", "[nearest(windows, at)[:each] for windows in wanted]"]),
-    (functools.partial(test_senders_take_turns, most="3", each="1"), ["nearest(windows, at)[:each]", "nearest(windows, at)"]),
+        "itertools.zip_longest(*(nearest(windows, at)[:own] for windows, own in zip(wanted, each)))", "[nearest(windows, at)[:own] for windows, own in zip(wanted, each)]"]),
+    (functools.partial(test_senders_take_turns, most="3", each="1"), ["nearest(windows, at)[:own]", "nearest(windows, at)"]),
     (test_the_rest_is_there_before_the_site, ["            for name, parts in zip(self.names, left):\n                if parts:\n                    self.write(name, parts, inputs)\n            yield\n",
                                               "            yield\n            for name, parts in zip(self.names, left):\n                if parts:\n                    self.write(name, parts, inputs)\n"]),
     (test_401_hostile_messages_keep_no_honest_one_out, ["if counts and (by or", "if False and (by or"]),

@@ -657,13 +657,16 @@ def test_sizes(spools):
     assert sorted(os.listdir(os.path.join(folder, "spool/taken"))) == ["a.json", "large.json"]
 
 
+SHORT = b"".join(b"x%d\n" % number for number in range(300))
+
+
 def test_what_is_made_of_a_file(spools):
     """Short lines that are no events make far longer ones: a file of which too much would be set aside is set aside itself."""
-    folder = spools.site(**{"a.json": document("e1"), "short.jsonl": b"x\n" * 300})
+    folder = spools.site(**{"a.json": document("e1"), "short.jsonl": SHORT})
     done = spools.takes(folder, "--size", str(2 ** 12))
     assert (done.status, last_line(done)) == (1, counted(1, 1))
     spools.leaves(folder, spools.joined(document("e1")), **{
-        "taken/a.json": None, "set-aside/short.jsonl": b"x\n" * 300,
+        "taken/a.json": None, "set-aside/short.jsonl": SHORT,
         "set-aside/short.jsonl.reason": b"what is made of it is larger than 4096 bytes: split it, or give a greater --size\n"})
 
 

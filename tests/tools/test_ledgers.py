@@ -1,0 +1,277 @@
+"""What a sender may cost a spool in a day: bytes, files, windows and processor time. What is beyond stays with its sender, and is named.
+
+A test has the tool take the files of whoever runs it for those of another user: it is told another number for its own.
+"""
+import functools
+import json
+import os
+import sys
+import time
+
+import pytest
+
+from tests import TOP
+from tests.reference.replica_files import read_file
+from tests.tools import others
+from tests.tools.copies import is_caught
+from tests.tools.test_rest import atoms_of, days, event
+from tests.tools.test_spool import Spools, content, held, put, shared
+
+sys.path.insert(0, os.path.join(TOP, "share", "cadf"))
+import cadf_ledgers
+
+__all__ = ["shared"]
+NONE = dict.fromkeys(cadf_ledgers.KINDS, 10 ** 12)  # limits that nobody reaches
+USER = os.getuid()
+
+
+class Place(Spools):
+    """A folder `site` of days, and a spool in which the files are another user's."""
+
+    def __init__(self, cadf, folder, tools=None):
+        super().__init__(cadf, folder, tools)
+        self.place = self.site()
+        self.spool = os.path.join(self.place, "spool")
+
+    def send(self, name, *events):
+        put(os.path.join(self.spool, name), json.dumps({"id": "g", "events": events}).encode())
+
+    def lines(self, name, data):
+        put(os.path.join(self.spool, name), data)
+
+    def run_once(self, budget=(), **limits):
+        """The names of what still is in the spool after a run, and what that said."""
+        program, said = self.program(), []
+        program.say = said.append
+        run = program.Run(program.Spool(self.spool), os.path.join(self.place, "site"), "g", program.Budget(0, 2 ** 30, 60, 2 ** 32)._replace(**dict(budget)), "day",
+                          ["--windows=400"], {**NONE, **limits})
+        right = os.geteuid
+        os.geteuid = lambda: right() + 1
+        try:
+            run.run()
+        finally:
+            os.geteuid = right
+            os.close(run.spool.lock)
+        return sorted(name for name in os.listdir(self.spool) if "." in name[1:] and name[0] != "."), said
+
+    def holds(self):
+        folder = os.path.join(self.place, "site")
+        names = [name for name in os.listdir(folder) if name.endswith(".cadf")]
+        return set().union(*(read_file(content(os.path.join(folder, name)))[1] for name in names))
+
+    def a_day_later(self):
+        """Has a day be over since the ledgers were written."""
+        path = os.path.join(self.spool, "set-aside", cadf_ledgers.FILE)
+        lines = [line.split() for line in content(path).decode().splitlines()]
+        put(path, "".join("%s %.3f %s\n" % (line[0], float(line[1]) - 86400, " ".join(line[2:])) for line in lines).encode())
+
+
+@pytest.fixture
+def place(cadf, tmp_path):
+    return Place(cadf, tmp_path)
+
+
+def stay(count, why):
+    return "user %d: %d files stay where they are: %s" % (USER, count, why)
+
+
+# ---- The ledgers
+
+def test_levels(tmp_path):
+    """A level falls by the limit in a day; a clock that was set forward counts as a day, and one that was set back as nothing."""
+    folder, limits = os.open(tmp_path, os.O_RDONLY), dict(NONE, bytes=100, files=10)
+    ledgers = cadf_ledgers.Ledgers(folder, limits)
+    assert ledgers.reached(7, {}) is None and ledgers.reached(7, {"bytes": 100}) == "bytes"
+    ledgers.charge(7, "bytes", 250)
+    ledgers.charge(7, "windows", 3)
+    ledgers.charge(8, "files", 9.5)
+    ledgers.write()
+    assert (tmp_path / ".ledgers").stat().st_mode & 0o777 == 0o600
+    for seconds, level, why in (0, 250, "bytes"), (43200, 200, "bytes"), (86400, 150, "bytes"), (10 ** 9, 150, "bytes"), (-10 ** 9, 250, "bytes"):
+        right = time.time
+        cadf_ledgers.time.time = lambda: right() + seconds
+        try:
+            found = cadf_ledgers.Ledgers(folder, limits)
+        finally:
+            cadf_ledgers.time.time = right
+        assert abs(found.level(7, "bytes") - level) < 1 and found.reached(7, {}) == why and found.reached(8, {"files": 1}) == ("files" if seconds <= 0 else None)
+    assert cadf_ledgers.Ledgers(folder, dict(limits, windows=5)).windows(7) == 2 and ledgers.windows(9) == cadf_ledgers.ALL
+    (tmp_path / ".ledgers").write_text("7 x\n8 " + "9" * 400 + "\n")
+    assert cadf_ledgers.Ledgers(folder, limits).levels == {}
+    os.close(folder)
+
+
+def test_more_senders_than_ledgers(tmp_path):
+    """Numbers of users cost no room without end: who comes later shares a ledger."""
+    folder = os.open(tmp_path, os.O_RDONLY)
+    ledgers = cadf_ledgers.Ledgers(folder, dict(NONE, bytes=10))
+    for user in range(cadf_ledgers.MOST + 100):
+        ledgers.charge(user, "bytes", 9.5)
+    ledgers.write()
+    assert len(ledgers.levels) <= cadf_ledgers.MOST + 1 and ledgers.reached(0, {}) is None and ledgers.reached(10 ** 6, {}) == "bytes"
+    assert len(cadf_ledgers.Ledgers(folder, dict(NONE, bytes=10)).levels) == len(ledgers.levels)
+    os.close(folder)
+
+
+# ---- A spool
+
+def test_bytes_of_a_day(place):
+    """What is written of a sender's files counts, and not what they are: of a sparse file of zeros what is set aside. The others come a day later."""
+    place.lines("0.jsonl", bytes(2 ** 20) + b"\n")
+    for number in range(1, 4):
+        place.send("%d.json" % number, event("e%d" % number, "2024-03-01T12:00:00Z"))
+    left, said = place.run_once(bytes=2 ** 20)
+    assert left == ["1.json", "2.json", "3.json"] and stay(3, "more than --sender-bytes a day") in said
+    assert place.run_once(bytes=2 ** 20)[0] == left
+    place.a_day_later()
+    assert place.run_once(bytes=2 ** 20)[0] == [] and place.holds() == atoms_of(*(event("e%d" % number, "2024-03-01T12:00:00Z") for number in range(1, 4)))
+
+
+def test_a_file_of_more_than_a_day(place):
+    """It is taken all the same, if nothing was before it: else it would never be. Others wait until that is paid back."""
+    place.send("a.json", *(event("e%d" % number, "2024-03-01T12:00:00Z") for number in range(200)))
+    place.send("b.json", event("b", "2024-03-01T12:00:00Z"))
+    assert place.run_once(bytes=10 ** 4)[0] == ["b.json"] and len(place.holds()) == 200
+    place.a_day_later()
+    assert place.run_once(bytes=10 ** 4)[0] == ["b.json"]
+    for _ in range(20):
+        place.a_day_later()
+        place.run_once(bytes=10 ** 4)
+    assert atoms_of(event("b", "2024-03-01T12:00:00Z")) <= place.holds()
+
+
+def test_files_of_a_day(place):
+    """An empty file costs its name, and that of what is made of it."""
+    for number in range(60):
+        place.lines("%02d.log" % number, b"")
+    left, said = place.run_once(files=10)
+    made = [len(held(os.path.join(place.spool, part))) for part in ("taken", "taking")]
+    assert len(left) == 50 and sum(made) == 10 and made[0] == 5 and stay(50, "more than --sender-files a day") in said
+
+
+def test_windows_of_a_day(place):
+    """Of two runs and of two files together a sender begins as many windows as one may in a day; the other events wait, and come a day later."""
+    for number in (1, 2):
+        place.send("%d.json" % number, *days("2024-0%d-01" % number, 3, "a%d" % number))
+        assert place.run_once(windows=4)[0] == []
+        assert len(place.holds()) == min(4, 3 * number)
+    wait = read_file(content(os.path.join(place.spool, "set-aside", "waits-%d.cadf" % USER)))[1]
+    assert len(wait) == 2 and wait | place.holds() == atoms_of(*days("2024-01-01", 3, "a1"), *days("2024-02-01", 3, "a2"))
+    place.a_day_later()
+    place.send("3.json", *days("2024-05-01", 3))
+    assert place.run_once(windows=4)[0] == [] and len(place.holds()) == 7
+
+
+def test_processor_time_of_a_day(place):
+    for name in "ab":
+        place.lines(name + ".jsonl", b"x\n" * 2000)
+    place.run_once(seconds=10 ** 6)
+    spent = float(content(os.path.join(place.spool, "set-aside", cadf_ledgers.FILE)).split()[5])
+    assert spent > 0.01  # two starts of Python at least
+    place.lines("c.jsonl", b"x\n")
+    left, said = place.run_once(seconds=spent / 2)
+    assert left == ["c.jsonl"] and stay(1, "more than --sender-seconds a day") in said
+
+
+def test_hard_links(place):
+    """A file under several names stays until it has one: each name would be a copy."""
+    place.send("a.json", event("a", "2024-03-01T12:00:00Z"))
+    place.send("one.json", event("one", "2024-03-01T12:00:00Z"))
+    for number in range(10):
+        os.link(os.path.join(place.spool, "a.json"), os.path.join(place.spool, "%d.json" % number))
+    left, said = place.run_once()
+    assert len(left) == 11 and place.holds() == atoms_of(event("one", "2024-03-01T12:00:00Z")) and stay(11, "each has more than one name (hard links)") in said
+    for number in range(10):
+        os.unlink(os.path.join(place.spool, "%d.json" % number))
+    assert place.run_once()[0] == [] and len(place.holds()) == 2
+
+
+def test_a_cap_keeps_files_with_their_sender(place):
+    """Who has more in set-aside/ than may be there sends nothing more until that was looked at."""
+    place.lines("a.jsonl", b"".join(b"x%d\n" % number for number in range(1000)))
+    place.run_once()
+    place.send("b.json", event("b", "2024-03-01T12:00:00Z"))
+    left, said = place.run_once({"waiting": 10 ** 4})
+    assert left == ["b.json"] and any("and more than an equal share is theirs" in line for line in said)
+    assert place.run_once({"waiting": 10 ** 6})[0] == []
+
+
+def test_a_line_that_is_long(place):
+    """A line of more than --longest is named, and its file is kept."""
+    place.lines("a.jsonl", json.dumps(event("a", "2024-03-01T12:00:00Z")).encode() + b"\n" + b"[" * 5000 + b"\n")
+    place.run_once({"longest": 4096})
+    entry = json.loads(content(os.path.join(place.spool, "set-aside", "a.jsonl")))
+    assert entry["faults"] == ["longer than 4096 bytes: see --longest"] and len(content(os.path.join(place.spool, "taken", "a.jsonl"))) > 5000
+    assert place.holds() == atoms_of(event("a", "2024-03-01T12:00:00Z"))
+
+
+def test_the_sender_of_a_copy_is_known(place):
+    """A run that ends after a copy is in its sender's place, which is the caller's file, knows at the next run whose it was."""
+    program = place.program()
+    place.send("a.json", event("a", "2024-03-01T12:00:00Z"))
+    spool = program.Spool(place.spool)
+    spool.claim("a.json")
+    spool.users["a.json"] = 12345
+    spool.put_senders(spool.users, spool.taking)
+    os.close(spool.lock)
+    again = program.Spool(place.spool)
+    assert again.user("a.json") == 12345 and again.claimed() == ["a.json"]
+
+
+# ---- Two senders
+
+def of_a_user(shared, name, data, user):
+    shared.send(name, data)
+    os.chown(os.path.join(shared.spool, name), user, others.GROUP)
+
+
+def text(*keys):
+    return json.dumps({"id": "g", "events": [event(key, "2024-03-01T12:00:00Z") for key in keys]}).encode()
+
+
+@others.needed
+def test_one_sender_costs_another_nothing(shared):
+    """One sends sparse files, links, files without end and junk, before the honest one by name: the honest event is in the site within one run, and the
+    stranger has cost what one may in a day, and a file more."""
+    for number in range(30):
+        of_a_user(shared, "0%02d.jsonl" % number, b"".join(b"%d.%d\n" % (number, each) for each in range(2000)), others.SENDER)
+    with open(os.path.join(shared.spool, "00.jsonl"), "wb") as file:
+        file.truncate(2 ** 22)
+        os.chown(file.fileno(), others.SENDER, others.GROUP)
+    for number in range(10):
+        os.link(os.path.join(shared.spool, "000.jsonl"), os.path.join(shared.spool, "00-%d.log" % number))
+    of_a_user(shared, "z.json", text("honest"), others.OTHER)
+    most = 10 ** 6
+    done = shared.takes_own("--unchanged", "0", "--sender-bytes", str(most))
+    assert done.status in (0, 5) and atoms_of(event("honest", "2024-03-01T12:00:00Z")) <= read_file(content(shared.own))[1], done
+    paths = [os.path.join(at, name) for at, _, names in os.walk(shared.spool) for name in names]
+    written = sum(os.lstat(path).st_blocks * 512 for path in paths if os.lstat(path).st_uid == others.CALLER)
+    left = [path for path in paths if os.lstat(path).st_uid == others.SENDER and os.path.dirname(path) == shared.spool]
+    assert written < most + 6 * 10 ** 6 and len(left) > 20 and b"user %d: " % others.SENDER in done.error and b"user %d: " % others.OTHER not in done.error
+
+
+@others.needed
+def test_files_that_are_claimed_wait_if_their_sender_has_cost_too_much(shared):
+    """What was claimed as small and became large: the rest of the sender's files wait in taking/, and come later. Another's don't wait."""
+    for name in ("a.jsonl", "b.jsonl", "c.jsonl"):
+        of_a_user(shared, name, b"".join(b"%s%d\n" % (name.encode(), each) for each in range(3000)), others.SENDER)
+    of_a_user(shared, "d.json", text("honest"), others.OTHER)
+    done = shared.takes_own("--unchanged", "0", "--sender-bytes", "100000")
+    assert b"more than --sender-bytes a day of user %d" % others.SENDER in done.error and done.status == 0, done
+    assert sorted(held(os.path.join(shared.spool, "taken"))) == ["a.jsonl", "d.json"] and sorted(held(os.path.join(shared.spool, "taking"))) != []
+    assert atoms_of(event("honest", "2024-03-01T12:00:00Z")) <= read_file(content(shared.own))[1]
+
+
+# ---- Copies that do wrong
+
+@pytest.mark.parametrize("check, texts", [
+    (test_hard_links, ["found.st_nlink > 1", "found.st_nlink > 100"]),
+    (test_bytes_of_a_day, ["        for part in (self.spool.taking, self.spool.aside):\n            for each", "        for part in ():\n            for each"]),
+    (test_files_of_a_day, ["coming[found.st_uid].update(bytes=found.st_size, files=1)", "coming[found.st_uid].update(bytes=found.st_size)"]),
+    (test_windows_of_a_day, ["self.charge(user, \"windows\", int(begun))", "self.charge(user, \"windows\", 0)"]),
+    (test_processor_time_of_a_day, ["found.ru_utime + found.ru_stime", "0"]),
+    (test_a_cap_keeps_files_with_their_sender, ["size > most / len(sizes)", "size > most * 1000"]),
+    (test_a_line_that_is_long, ["\"--longest=%d\" % self.budget.longest, ", ""]),
+    (test_the_sender_of_a_copy_is_known, ["else self.users.get(name, owner)", "else owner"])])
+def test_a_wrong_version_is_caught(cadf, tmp_path, check, texts):
+    is_caught(tmp_path, texts, check, functools.partial(Place, cadf, tmp_path))
