@@ -33,7 +33,7 @@ esac
 "$BUILT" "$@"
 if [ "$STAGE" = "after $1" ]; then kill -9 $PPID; fi
 """
-STAGES = ["before join", "within join", "after join", "before missing", "after missing"]
+STAGES = ["before join", "within join", "after join"]
 
 
 def put(name, text, mode=0o644):
@@ -119,6 +119,15 @@ def test_further_files_and_nothing_new(folder, mask):
     leaves(folder.both, folder.one)
     ends(folder.take("s.cadf", "both.json", "s.cadf.before", "s.cadf"), 0)
     leaves(folder.both, folder.one)
+
+
+@pytest.mark.parametrize("name, old, site", [("two.json", "one", "both"), ("one.json", "both", "both")])
+def test_a_take_reads_the_site_once(folder, name, old, site):
+    """The command is run once, whatever the files add."""
+    folder.site(site=getattr(folder, old))
+    put("counting", '#!/bin/sh\necho "$1" >>calls\nexec "$BUILT" "$@"\n', 0o755)
+    ends(folder.take("s.cadf", name, env={"CADF": "./counting", "BUILT": folder.cadf}), 0)
+    assert held("s.cadf") == getattr(folder, site) and held("calls") == b"join\n"
 
 
 def test_behind_a_killed_run(folder):
@@ -391,7 +400,7 @@ def test_a_file_system_without_hard_links(folder, site, status):
 def test_many_callers(folder, callers):
     """Many at once, every third killed while the command runs: the site has what was taken by those that ended well, and no more."""
     put("first.json", document("first"))
-    folder.site(site=folder.joined("first.json"))  # so that each caller asks what is missing
+    folder.site(site=folder.joined("first.json"))
     put("killing", KILLING, 0o755)
     running, taken = [], ["first.json"]
     for number in range(callers):
