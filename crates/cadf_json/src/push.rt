@@ -1,5 +1,5 @@
 //! Nodes and decoded texts, appended.
-ghost use Rattle.std.specs.Prelude.{◌≡◌, ◌≢◌, ◌-◌, ◌≤◌, ◌++◌, [], None, IfOk, OnOk, vec_len};
+ghost use Rattle.std.specs.Prelude.{◌≡◌, ◌≢◌, ◌+◌, ◌-◌, ◌^◌, ◌≤◌, ◌++◌, [], None, IfOk, IfErr, OnOk, vec_len};
 ghost use Rattle.serde_json.specs.Data.{Num};
 ghost use Rattle.serde_json.specs.Read.{number_of};
 ghost use Rattle.serde_json.specs.Written.{number_text};
@@ -38,21 +38,30 @@ impl Flat {
 /// The greatest length of the texts, and the greatest number of nodes.
 pub(crate) const MOST: usize = u32::MAX as usize;
 
-/// Appends a decoded text, and returns its place. `Memory` past 4 GiB.
+/// Returns the place of so many bytes after those up to `start`. `Memory` if and only if they end past 4 GiB.
+#[inline(always)]
+fn place_from(start: usize, count: usize) -> Result<Place, AllocError>
+    ensures ok { IfOk result (λ p. (p.start ≡ start) × (p.end ≡ start + count)) }
+    ensures err { IfErr result (λ _. 2 ^ 32 ≤ start + count) }
+{
+    if start > MOST || count > MOST - start {
+        return Err(AllocError);
+    }
+    Ok(Place {
+        start: start as u32,
+        end: (start + count) as u32,
+    })
+}
+
+/// Appends a decoded text, and returns its place. `Memory` past 4 GiB, or if an allocation fails.
 #[inline(always)]
 pub(crate) fn push_text(text: &str, texts: &mut Vec<u8>) -> Result<Place, AllocError>
     ensures texts { OnOk result (texts.new.items ≡ texts.old.items ++ text.now) }
     ensures place { IfOk result (λ p. IsTextAt texts.new.items p text.now) }
 {
-    let start = texts.len();
-    if start > MOST || text.len() > MOST - start {
-        return Err(AllocError);
-    }
+    let place = place_from(texts.len(), text.len())?;
     texts.extend_from_slice(text.as_bytes())?;
-    Ok(Place {
-        start: start as u32,
-        end: (start + text.len()) as u32,
-    })
+    Ok(place)
 }
 
 /// Appends a text and its node.
@@ -90,14 +99,16 @@ fn push_whole(spelled: &str, flat: &mut Flat) -> Result<(), AllocError>
     Ok(())
 }
 
-/// Returns the extent of a list or an object whose parts were appended after the node at `at`. `Memory` past 2^32 nodes.
+/// Returns the extent of a list or an object whose parts were appended after the node at `at`. `Memory` if and only if it
+/// has 2^32 nodes or more.
 pub(crate) fn extent_from(
     nodes: &Vec<PackedNode>,
     at: usize,
     count: u32,
 ) -> Result<Extent, AllocError>
     requires { at ≤ vec_len nodes.now }
-    ensures { IfOk result (λ e. (e.size ≡ vec_len nodes.now - at) × (e.count ≡ count)) }
+    ensures ok { IfOk result (λ e. (e.size ≡ vec_len nodes.now - at) × (e.count ≡ count)) }
+    ensures err { IfErr result (λ _. 2 ^ 32 ≤ vec_len nodes.now - at) }
 {
     let size = nodes.len() - at;
     if size > MOST {

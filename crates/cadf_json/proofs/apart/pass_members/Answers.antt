@@ -21,7 +21,7 @@ returns g c =
     let len = l.flat.nodes.ok.0 in
     apart_over g.T.ItemVisitor.took c.args.name.now (value c.args.depth) c.args.reader.now c.args.flat.now.nodes.items c.args.flat.now.texts.items l.taker l.reader s
     l.flat.nodes.items _ l.flat.texts.items l.count c.len-at.result l.flat.nodes.len
-    (option_map (λ x. x.now) l.last) l.rising c.in_ok-extent.extent l.invariant.0 over l.invariant.1 (omega (arith, len)) c.in_ok-extent.ensures
+    (option_map (λ x. x.now) l.last) l.rising c.in_ok-extent.extent l.invariant.0 over l.invariant.1 (omega (arith, len)) c.in_ok-extent.ensures.ok
     (ap (set l.flat.nodes.items c.len-at.result) c.in_ok-flat.ensures.ok)
 
 pub members-preserved : goal.members-preserved

@@ -131,7 +131,7 @@ copy_items-returns t c = λ ds h counted.
     let len = l.out.ok.0 in
     let none : length l.rest.now ≡ 0 = grind arith in
     copied_all c.args.texts.now ds c.args.out.now.items l.rest.now l.out.items _ c.args.count
-    c.len-at.result l.out.len c.in_ok-extent.extent (l.invariant.0 ds h) none counted l.invariant.1 (omega (arith, len)) c.in_ok-extent.ensures
+    c.len-at.result l.out.len c.in_ok-extent.extent (l.invariant.0 ds h) none counted l.invariant.1 (omega (arith, len)) c.in_ok-extent.ensures.ok
     (ap (set l.out.items c.len-at.result) c.in_ok-out.ensures.ok)
 
 -- ---- members
@@ -196,4 +196,4 @@ copy_members-returns t c = λ ms h.
     named_all c.args.texts.now (length c.args.members.now) ms c.args.out.now.items l.out.items
     _ l.kept c.len-start.result l.out.len c.in_ok-extent.extent
     (subst (λ es. MembersCopied c.args.texts.now (length c.args.members.now) ms es c.args.out.now.items l.out.items l.kept) none (l.invariant.0 ms h))
-    l.invariant.1 (omega (arith, len)) c.in_ok-extent.ensures (ap (set l.out.items c.len-start.result) c.in_ok-out.ensures.ok)
+    l.invariant.1 (omega (arith, len)) c.in_ok-extent.ensures.ok (ap (set l.out.items c.len-start.result) c.in_ok-out.ensures.ok)

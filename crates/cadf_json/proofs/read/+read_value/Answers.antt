@@ -121,7 +121,7 @@ read_items-returns-clause-ok t c =
     let len = l.flat.nodes.ok.0 in
     all_items (value c.args.depth) c.args.reader.now c.args.flat.now.nodes.items c.args.flat.now.texts.items l.reader c.take_end_array.new.self l.flat.nodes.items
     _ l.flat.texts.items l.count c.len-at.result l.flat.nodes.len l.rising c.in_ok-extent.extent l.invariant.0 (grind arith)
-    l.invariant.1 (omega (arith, len)) c.in_ok-extent.ensures (ap (set l.flat.nodes.items c.len-at.result) c.in_ok-flat.ensures.ok)
+    l.invariant.1 (omega (arith, len)) c.in_ok-extent.ensures.ok (ap (set l.flat.nodes.items c.len-at.result) c.in_ok-flat.ensures.ok)
 
 -- ---- members
 
@@ -144,7 +144,7 @@ read_members-returns-clause-ok t c =
       put_all l.invariant.0.got no_members,
       all_members (λ ms. ms) (value c.args.depth) c.args.reader.now c.args.flat.now.nodes.items c.args.flat.now.texts.items l.reader s l.flat.nodes.items
           _ l.flat.texts.items l.count c.len-at.result l.flat.nodes.len
-          (option_map (λ x. x.now) l.last) l.rising c.in_ok-extent.extent l.invariant.0 over l.invariant.1 (omega (arith, len)) c.in_ok-extent.ensures
+          (option_map (λ x. x.now) l.last) l.rising c.in_ok-extent.extent l.invariant.0 over l.invariant.1 (omega (arith, len)) c.in_ok-extent.ensures.ok
           (ap (set l.flat.nodes.items c.len-at.result) c.in_ok-flat.ensures.ok),
     )
 
