@@ -22,7 +22,8 @@ from tests.tools.test_sync import TRIED
 
 DAYS, EVENTS = 6, 20  # windows of the honest site, and events of each
 SHARE = 4  # what a byte of a stranger's may cost, beside an honest one
-STARTS = 12  # programs that a call may start more
+STARTS, OF_WINDOW = 12, 3  # programs that a call may start more; for each window that the stranger begins
+YEARS = range(1900, 1920)
 EVENT = {"eventType": "activity", "action": "read", "outcome": "success", "initiatorId": "u1", "targetId": "t1", "observerId": "s1"}
 # Notes of each call its command, the bytes of the files that it is given, and what it writes.
 COUNTING = """#!/bin/sh
@@ -61,6 +62,7 @@ def rulings(count):
 
 
 ATTACKS = {"chains that share a large step": lambda: shared_step(120000), "rulings of no key": lambda: rulings(2000),
+           "a window for each event": lambda: facts(*(dict(honest(1, 0), id="w%d" % number, eventTime="%d-01-01T00:00:00Z" % number) for number in YEARS)),
            "events of a day": lambda: facts(*(dict(honest(2, 0), id="x%d" % number) for number in range(100)))}
 
 
@@ -135,9 +137,10 @@ def before(tmp_path_factory, cadf, tools):
 
 def check_costs(path, cadf, tools, attack, before, names=tuple(CALLS)):
     after, size, sent = costs(path, cadf, tools, attack, names)
+    starts = STARTS + OF_WINDOW * len(YEARS if attack == "a window for each event" else ())
     shares = {name: sent / (size / DAYS if name == "events of a day" else size) for name in names}  # of the bytes that the call reads
     dear = {name: (before[name], found) for name, found in after.items()
-            if found[0] > before[name][0] + STARTS or found[1] > before[name][1] * (1 + SHARE * shares[name]) + 2 ** 16}
+            if found[0] > before[name][0] + starts or found[1] > before[name][1] * (1 + SHARE * shares[name]) + 2 ** 16}
     assert dear == {}, "honest %d bytes, sent %d" % (size, sent)
 
 

@@ -1,11 +1,14 @@
 """One stranger, one honest sender: whatever the stranger sends, and by whichever way both come, the honest event is in the site within one run."""
 import datetime
 import json
+import os
 
 import pytest
 
 from tests.reference.replica_files import file_of
 from tests.reference.split_files import parts_of
+from tests.tools.listeners import LISTEN
+from tests.tools.programs import loaded
 from tests.tools.test_rest import Place, atoms_of, days, event
 from tests.tools.test_sync import items, message
 
@@ -40,6 +43,21 @@ def by_lines(place, sent):
     return place.spool("--windows=%d" % MOST)
 
 
+def listened(place, *bodies):
+    """Has a listener write what a bus brings in these messages, and the spool take it."""
+    program = loaded(LISTEN)
+    program.say = lambda text: None
+    (place.path / "spool").chmod(0o700)
+    spool = program.Spool(str(place.path / "spool"), 2 ** 26, 300)
+    spool.write(list(map(program.line_of, bodies)))
+    spool.finish()
+    return place.spool("--windows=%d" % MOST)
+
+
+def by_listener(place, sent):
+    return listened(place, *(json.dumps({"payload": each}).encode() for each in [*sent, HONEST]))
+
+
 def by_hand(place, sent):
     return place.run("cadf-take", "--windows=%d" % MOST, "--rest=rest", "site/", place.put("a.json", *sent), place.put("honest.json", HONEST))
 
@@ -60,7 +78,7 @@ def by_serving(place, sent):
                      input=b"CADF-SYNC 1 %s\n" % json.dumps(hello).encode() + message(b"take", items(*found)))
 
 
-WAYS = {"spool": by_spool, "lines in the spool": by_lines, "by hand": by_hand, "pull": by_exchange("--pull", "site/", "peer/"),
+WAYS = {"spool": by_spool, "lines in the spool": by_lines, "listener": by_listener, "by hand": by_hand, "pull": by_exchange("--pull", "site/", "peer/"),
         "push": by_exchange("--push", "peer/", "site/"), "serve": by_serving}
 
 
@@ -82,6 +100,19 @@ def test_the_honest_event_is_in_the_site_within_one_run(place, way, stranger):
     assert before | atoms_of(HONEST) <= place.site(), done
 
 
+@pytest.mark.parametrize("way", WAYS)
+def test_each_way_leaves_what_a_take_by_hand_leaves(cadf, place, tmp_path, way):
+    """In facts, files and bytes: so what is tried of a take by hand, as what later calls cost (test_costs), holds of each way."""
+    hand = Place(cadf, tmp_path / "hand")
+    hand.takes("--by=day", "site/", hand.put("base.json", BASE))
+    sent, found = STRANGERS["the honest event's own day"], []
+    for each, do in (hand, by_hand), (place, WAYS[way]):
+        do(each, sent)
+        names = [line for line in (each.path / "site" / "site").read_text().splitlines() if line.startswith("F ")]
+        found.append((each.site(), len(names), sum(os.stat(each.path / "site" / ("%s.%s.cadf" % tuple(line.split()[1:]))).st_size for line in names)))
+    assert found[0][0] == found[1][0] and found[1][1] <= found[0][1] + 1 and found[1][2] <= found[0][2] * 2, [each[1:] for each in found]
+
+
 @pytest.mark.parametrize("junk", JUNK)
 @pytest.mark.parametrize("name", ["a.json", "a.cadf", "a.jsonl"])
 def test_what_is_no_event_stops_none(place, junk, name):
@@ -90,3 +121,41 @@ def test_what_is_no_event_stops_none(place, junk, name):
     place.put("spool/honest.json", HONEST)
     done = place.spool()
     assert done.status in (0, 1) and b"Traceback" not in done.error and atoms_of(HONEST) <= place.site(), done
+
+
+MESSAGES = {**JUNK, "a line feed": b'{"payload":\n' + json.dumps(HONEST).encode(), "no UTF-8": b"\xff" * 1000, "blank": b"", "an entry of what was set aside": b'{"faults":[],"text":"x"}',
+            "deep": b"[" * 5000 + b"]" * 5000, "an envelope in an envelope": json.dumps({"oslo.message": json.dumps({"oslo.message": "{"})}).encode(),
+            "a quote without an end": b'{"payload": "'}
+
+
+@pytest.mark.parametrize("junk", MESSAGES)
+def test_no_message_stops_another(place, junk):
+    """Whatever a message of a bus is, the honest one after it is taken, and the honest one before it."""
+    other = dict(HONEST, id="other")
+    done = listened(place, json.dumps({"payload": other}).encode(), MESSAGES[junk], json.dumps({"payload": HONEST}).encode())
+    assert done.status == 0 and b"Traceback" not in done.error and atoms_of(HONEST, other) <= place.site(), done
+
+
+def session(place, *messages):
+    hello = {"limit": 2 ** 30, "log": "g", "site": "site/", "timeout": 60, "unit": "day", "since": None}
+    return place.run("cadf-sync", "--serve", "site/", input=b"CADF-SYNC 1 %s\n" % json.dumps(hello).encode() + b"".join(messages))
+
+
+@pytest.mark.parametrize("junk", JUNK)
+@pytest.mark.parametrize("kind", [b"facts", b"some"])
+def test_a_peer_that_sends_junk_stops_no_other(place, junk, kind):
+    """Its session ends with a fault, the site is as it was, and the next session is as any."""
+    before, part = place.site(), HONEST["eventTime"][:10].encode()
+    good = file_of("g", parts_of(atoms_of(HONEST), "day")[part.decode()])
+    bad = session(place, message(b"take", items((part, kind, JUNK[junk]))), message(b"take", items((part, b"facts", good))))
+    assert (bad.status == 1 and b"\nfault " in bad.output or b'"fault"' in bad.output) and b"Traceback" not in bad.error and place.site() == before, bad
+    done = session(place, message(b"take", items((part, b"facts", good))))
+    assert done.status == 0 and atoms_of(HONEST) <= place.site(), done
+
+
+def test_a_hand_that_takes_two_files(place):
+    """By hand one of which is refused keeps the other out, since a take is whole or not at all: it is named, and the other is taken by itself."""
+    (place.path / "bad.json").write_bytes(b"[")
+    done = place.run("cadf-take", "--rest=rest", "site/", "bad.json", place.put("honest.json", HONEST))
+    assert done.status == 1 and b"bad.json: not JSON" in done.error and place.site() == atoms_of(BASE)
+    assert place.run("cadf-take", "--rest=rest", "site/", "honest.json").status == 0 and atoms_of(HONEST) <= place.site()
