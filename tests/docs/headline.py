@@ -1,12 +1,11 @@
-"""Checks that a law speaks of each engine that the command and the library for C call.
+"""Checks that a law speaks of each run that the command and the library for C make, and of each request.
 
     python3 -m tests.docs.headline
 
-An engine's contract has a clause `IsRun`, `IsRunBy` or `IsRequestRun` over its sources, and what the library makes of bytes
-in memory has a clause `IsMade..`. Such a clause of each function of cadf_tool that the command calls, and of each that
-cadf_c exports, must be the premise of a law of LAWS, with the same definitions in it. If it is of any engine, it must be
-so for the work and the text of each engine that the callers name. A clause of a request speaks of all requests: each must
-have a row of `IsAnswered` that says something. OTHERS has the laws that speak of seals and of schedules.
+What is asked is a request. So each call of cadf_tool by the command or by cadf_memory that has a clause on a run of sources
+must have `IsRequestRun`, and each function of cadf_memory and each that cadf_c exports one on what is made of bytes in memory
+(`IsMadeFor`, which is in `IsCall`). Both must be the premise of a law of LAWS. These speak of all requests: each must have a
+row of `IsAnswered` that says something, or a law of OTHERS, on seals and on schedules.
 """
 import re
 import sys
@@ -16,77 +15,41 @@ from tests.proofs import corpus
 
 LAWS = ("crates/cadf_tool/src/exchange.rt", "crates/cadf_memory/src/laws.rt")
 REQUESTED, TASKS, REQUEST = ("crates/cadf_tool/" + name for name in ("specs/Requested.antt", "specs/Request.antt", "src/request.rt"))
-CALLERS = ("cadf", "cadf_memory", "cadf_c")
+CALL = "crates/cadf_c/specs/Statuses.antt"
 # What is made of sources where no file comes of it, and the laws that speak of that.
 OTHERS = {
     "proof_of_union": ("cadf_seal", "made_proof_is_accepted"),
     "verdict_of": ("cadf_seal", "accepted_proof_is_true"),
     "final_sites": ("cadf_rehearsal", "rehearsal_equals_full_exchange"),
 }
-HEAD = re.compile(r"\bIs(?:Run|RunBy|RequestRun|Made\w*)\b(?=[ \n(])")
-IMPORT = re.compile(r"ghost use Rattle[^{;]*\{([^}]*)\}|ghost use Rattle[\w.]*\.(\w+) as \w+")
+CLAUSE = re.compile(r"\bIs(?:Run|RunBy|RequestRun|MadeFor)\b")
 FUNCTION = re.compile(r"(?ms)^(?:#\[.*?\]\n)?pub (?:extern \"C\" )?fn (\w+).*?^\{")
 LAW = re.compile(r"(?ms)^pub fn \w+[^\n]*\n(?:(?!^\{).)*?^\{\}$")
-ENGINE = re.compile(r"(?ms)^impl(?:<[^>]*>)? Engine for (\w+).*?ghost work = \{(.*?)\};.*?ghost tell = \{(.*?)\};")
 VARIANT = re.compile(r"(?m)^    ([A-Z]\w*)(?: \{|,)")
-# They say where the sources stand and how an argument is spelled, not what is done with them.
-PLACES = {"source_state", "transition_of", "length", "encode_utf8", "bytes_in", "log_given", "number_given"}
 
 
-def clauses(text):
-    """Yields each clause of an engine: from its name to where it ends, or the sink."""
-    for head in HEAD.finditer(text):
-        depth = 0
-        for end in range(head.end(), len(text)):
-            depth += {"(": 1, "{": 1, ")": -1, "}": -1}.get(text[end], 0)
-            if depth < 0 or not depth and (text[end] == "→" or text.startswith("W.Sink", end)):
-                yield text[head.start():end]
-                break
+def sources(crate):
+    return [text_of(path) for path in corpus.files_of(crate, "src")]
 
 
-def words(text, clause):
-    """The definitions of a source's text that stand in a clause."""
-    imported = {name for several, one in IMPORT.findall(text) for name in re.findall(r"[\w◌]+", several or one)}
-    return frozenset(re.findall(r"\w+", clause)) & imported - PLACES
-
-
-def engines():
-    """Yields the definitions in the work and the text of each type of engine that a caller names."""
-    named = "\n".join(text_of(path) for crate in CALLERS for path in corpus.files_of(crate, "src"))
-    for path in corpus.files_of("cadf_tool", "src"):
-        for name, work, tell in ENGINE.findall(text_of(path)):
-            if re.search(r"\b%s\b" % name, named):
-                yield name, words(text_of(path), work + tell)
-
-
-def called():
-    """Yields each engine that the command calls and each function of the library, with the definitions in its clause."""
-    calls = "\n".join(text_of(path) for path in corpus.files_of("cadf", "src"))
-    for crate, is_called in (("cadf_tool", lambda name: re.search(r"\b%s\(" % name, calls)), ("cadf_c", lambda name: True)):
-        for path in corpus.files_of(crate, "src"):
-            text = text_of(path)
+def called(call=None):
+    """Yields each function that the callers call or export, with the relations in its clause; with that text of `IsCall`, if it is
+    given."""
+    calls = "\n".join(text for crate in ("cadf", "cadf_memory") for text in sources(crate))
+    record = re.search(r"(?ms)^pub record IsCall\b.*", text_of(CALL) if call is None else call).group()
+    for crate in ("cadf_tool", "cadf_memory", "cadf_c"):
+        for text in sources(crate):
             for found in FUNCTION.finditer(text):
-                clause = next(clauses(found.group()), None)
-                if clause and is_called(found.group(1)):
-                    if "E.work" in clause:
-                        for name, of_engine in engines():
-                            yield "%s of %s" % (found.group(1), name), words(text, clause) | of_engine
-                    else:
-                        yield found.group(1), words(text, clause)
-
-
-def premises(sources):
-    """Returns the definitions in each premise of a law that is a clause of an engine."""
-    found = set()
-    for text in sources:
-        for law in LAW.findall(text):
-            found.update(words(text, clause) for clause in clauses(law))
-    return found
+                name, clauses = found.group(1), set(CLAUSE.findall(found.group().replace("IsCall ", record)))
+                is_law = text[found.end():].startswith("}\n") and text[found.end() - 1:found.end()] == "{"
+                is_export = crate == "cadf_c" and "length: &mut usize" in found.group()
+                if is_export or clauses and not is_law and (crate != "cadf_tool" or re.search(r"\b%s\(" % name, calls)):
+                    yield name, clauses
 
 
 def unsaid(requested, tasks, request):
     """Yields each request of which `IsAnswered` says nothing, nor another law."""
-    for name in VARIANT.findall(re.search(r"(?s)pub enum Request \{(.*?)^\}", request, re.M).group(1) if "pub enum Request {\n" in request else ""):
+    for name in VARIANT.findall(re.search(r"(?s)pub enum Request \{(.*?)^\}", request, re.M).group(1)):
         row = re.search(r"(?m)^IsAnswered \(?ask\.%s\b[^=]*= (.*)$" % name, requested)
         work = re.search(r"(?ms)^task \(?ask\.%s\b.*?(?=^task |\Z)" % name, tasks)
         others = [law for word, law in OTHERS.items() if work and re.search(r"\b%s\b" % word, work.group())]
@@ -99,22 +62,21 @@ def is_law(crate, name):
     return re.search(r"(?m)^pub fn %s\(" % name, text_of("crates/%s/src/laws.rt" % crate)) is not None
 
 
-def faults(laws=None, requested=None):
-    """Yields a line for each engine, or request, of which no law speaks; with these laws' and rows' texts, if they are given."""
-    known = premises(laws if laws is not None else [text_of(path) for path in LAWS])
-    for name, found in called():
-        others = [law for word, law in OTHERS.items() if word in found]
-        if found not in known and not any(is_law(*law) for law in others):
-            yield "no law has the clause of %s as its premise: %s" % (name, " ".join(sorted(found)))
-    if any("IsRequestRun" in found for found in known):
-        yield from unsaid(text_of(REQUESTED) if requested is None else requested, text_of(TASKS), text_of(REQUEST))
+def faults(laws=None, requested=None, call=None):
+    """Yields a line for each call, or request, of which no law speaks; with these texts of the laws, the rows of `IsAnswered` and
+    `IsCall`, if they are given."""
+    known = {clause for text in laws or map(text_of, LAWS) for law in LAW.findall(text) if "IsAnswered" in law for clause in CLAUSE.findall(law)}
+    for name, clauses in called(call):
+        if not clauses or clauses - known:
+            yield "no law has the clause of %s as its premise: %s" % (name, " ".join(sorted(clauses - known)) or "it has none")
+    yield from unsaid(text_of(REQUESTED) if requested is None else requested, text_of(TASKS), text_of(REQUEST))
 
 
 def main():
     found = list(faults())
     for line in found:
         print("headline: " + line)
-    print("headline: a law speaks of %d of %d clauses" % (len(list(called())) - len(found), len(list(called()))))
+    print("headline: a law speaks of %d of %d calls, and of each request" % (len(list(called())) - len(found), len(list(called()))))
     sys.exit(bool(found))
 
 

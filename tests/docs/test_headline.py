@@ -10,13 +10,6 @@ EXCHANGE, MEMORY = (text_of(path) for path in headline.LAWS)
 REQUESTED = text_of(headline.REQUESTED)
 
 
-def without(text, clause):
-    """The text without a clause of a law."""
-    changed = re.sub(r"(?ms)^    ensures %s \{.*?\}\n(?=    ensures|\{)" % clause, "", text)
-    assert changed != text
-    return changed
-
-
 def test_a_law_speaks_of_each():
     assert not list(headline.faults())
 
@@ -34,12 +27,16 @@ def test_without_the_law_of_runs_the_run_is_named():
     assert len(found) == 1 and "the clause of run as its premise" in found[0]
 
 
-def test_without_a_clause_of_memory_the_call_of_c_is_named():
-    found = list(headline.faults([EXCHANGE, without(MEMORY, "split")]))
-    assert len(found) == 1 and "the clause of cadf_split as its premise" in found[0]
+def test_without_the_law_of_memory_each_call_of_c_is_named():
+    found = list(headline.faults([EXCHANGE, MEMORY.replace("IsMadeFor q", "IsAnyMadeFor q")]))
+    assert len(found) == 15 and "the clause of over as its premise" in found[0] and "the clause of cadf_split as its premise" in found[-1]
+
+
+def test_a_call_of_c_that_says_nothing_of_the_text_is_named():
+    found = list(headline.faults(call=text_of(headline.CALL).replace("IsMadeFor q", "IsAny q")))
+    assert len(found) == 14 and all(line.endswith(": it has none") for line in found)
 
 
 def test_without_a_law_of_schedules_the_rehearsal_is_named(monkeypatch):
     monkeypatch.setitem(headline.OTHERS, "final_sites", ("cadf_rehearsal", "no_such_law"))
-    found = [line.split(":")[0] for line in headline.faults()]
-    assert found == ["no law has the clause of cadf_rehearse as its premise", "no law speaks of the request Rehearse"]
+    assert list(headline.faults()) == ["no law speaks of the request Rehearse"]

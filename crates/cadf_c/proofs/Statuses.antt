@@ -1,21 +1,20 @@
 -- Which statuses faults have, and what is told with each.
-use Rattle.std.proofs.Common.{◌≡◌, ◌≤◌, ◌⊎◌, inl, inr, ℕ, List, length, true, true≢false, refl, sym, ap, ◌∙◌, subst, Option, Some, None, Result, Ok, Err, IfOk, IfErr, IsErrAnd, ℤ, pos, arith}
-use Rattle.std.specs.Option.{option_map}
+use Rattle.std.proofs.Common.{◌≡◌, ◌≤◌, ◌⊎◌, inl, inr, ℕ, List, length, true, true≢false, refl, sym, ap, ◌∙◌, subst, Result, Ok, Err, IfOk, IfErr, IsErrAnd}
+use Rattle.std.proofs.Common.{ℤ, pos, arith}
 use Rattle.cadf_arguments.specs.declared.fault.ArgumentFault.{ArgumentFault}
 use Rattle.cadf_arguments.specs.declared.fault.ArgumentFault.TheVariants.{LogName, Sites, Letter, Key, Place, Cells, Salt, Unit as NoUnit, Memory as NoMemory}
 use Rattle.cadf_arguments.specs.Arguments.{argument_status_of, argument_text_of}
 use Rattle.cadf_tool.specs.declared.fault.ToolFault.{ToolFault}
 use Rattle.cadf_tool.specs.declared.fault.ToolFault.TheVariants.{Input, NoLog, OtherLog, TooFewCells, Script, Rehearse, NoValue, Unverified}
 use Rattle.cadf_tool.specs.declared.fault.ToolFault.TheVariants.{ReadFault, WriteFault, Memory}
+use Rattle.cadf_tool.specs.declared.request.Request.{Request}
 use Rattle.cadf_tool.specs.Faults.{status_of}
-use Rattle.cadf_memory.specs.Refused.{is_of_memory}
-use Rattle.cadf_join.specs.Contents.{Text}
 use Rattle.cadf_memory.specs.Handed.{IsHandedOut}
-use Rattle.cadf_memory.proofs.Outcomes.{IsOutcome}
-use Rattle.cadf_c.specs.Arguments.{IsArgumentFault}
-use Rattle.cadf_c.specs.Statuses.{IsRefused, IsStatus, IsTold}
+use Rattle.cadf_memory.specs.Made.{IsMadeFor, IsFirstFor, is_of_memory}
+use Rattle.cadf_c.specs.Arguments.{IsAsked}
+use Rattle.cadf_c.specs.Statuses.{IsRefused, IsCall}
 
--- of an engine where no read and no write fails
+-- where no read and no write fails
 pub one_or_four : (fault : ToolFault) → is_of_memory fault ≡ true → (status_of fault ≡ 1) ⊎ (status_of fault ≡ 4)
 one_or_four (Input n f) h = inl refl
 one_or_four NoLog h = inl refl
@@ -29,39 +28,45 @@ one_or_four (ReadFault n) h = absurd (true≢false (sym h))
 one_or_four WriteFault h = absurd (true≢false (sym h))
 one_or_four Memory h = inr refl
 
--- the fault that an engine answered
-pub refused : {V : Type 0} (P : ToolFault → Type 0) (made : Result V ToolFault) → IfErr made P → IsErrAnd made (λ fault. status_of fault ≡ 1)
-    → IsRefused P
-refused P (Ok v) h e = absurd e
-refused P (Err fault) h e = record { fault = fault; first = h; status = e }
+apart : (s : ℤ) (m n : ℕ) → s ≡ pos m → s ≡ pos n → m ≡ n
+apart s m n a b = cc
 
--- ---- what is told
+-- ---- what is told of a run
 
--- where the text was written
-pub handed : {P : Text → Type 0} {Q : ToolFault → Type 0} {made : Result ℕ ToolFault} {old last new : List ℕ} {count : ℕ}
-    → (made ≡ Ok count) × (new ≡ last) → IsOutcome P Q old last made → IsHandedOut P old new count
-handed {P} {Q} {made} {old} {last} {new} {count} w ran =
-    subst (λ ws. IsHandedOut P old ws count) (sym w.1) (subst (λ r. IfOk r (IsHandedOut P old last)) w.0 ran.ok)
+module _ (q : Request) (inputs : List (List ℕ)) (made : Result ℕ ToolFault) (status : ℤ) (old last new : List ℕ) (count : ℕ)
+    (ok : IfOk made (IsHandedOut (IsMadeFor q inputs) old last)) (err : IfErr made (IsFirstFor q inputs))
+    (is_written : status ≡ pos 0 → (made ≡ Ok count) × (new ≡ last)) (is_refused : status ≡ pos 1 → IsErrAnd made (λ fault. status_of fault ≡ 1))
+    (only : (status ≡ pos 0) ⊎ (status ≡ pos 1) ⊎ (status ≡ pos 4)) (short : (status ≡ pos 0) ⊎ (count ≤ 128)) where
+  written : status ≡ pos 0 → IsHandedOut (IsMadeFor q inputs) old new count
+  written zero =
+      let w = is_written zero in
+      subst (λ ws. IsHandedOut (IsMadeFor q inputs) old ws count) (sym w.1) (subst (λ r. IfOk r (IsHandedOut (IsMadeFor q inputs) old last)) w.0 ok)
 
-pub first_of : {P : Text → Type 0} {Q : ToolFault → Type 0} {made : Result ℕ ToolFault} {old last : List ℕ}
-    → IsErrAnd made (λ fault. status_of fault ≡ 1) → IsOutcome P Q old last made → IsRefused Q
-first_of {Q = Q} {made = made} e ran = refused Q made ran.err e
+  refused_by : (r : Result ℕ ToolFault) → IfErr r (IsFirstFor q inputs) → IsErrAnd r (λ fault. status_of fault ≡ 1) → IsRefused (IsFirstFor q inputs)
+  refused_by (Ok v) h e = absurd e
+  refused_by (Err fault) h e = record { fault = fault; first = h; status = e }
 
--- where no argument is refused
-never_two : (status : ℤ) → IsStatus None status → status ≡ pos 2 → ⊥
-never_two status (inl e) two = cc
-never_two status (inr (inl e)) two = cc
-never_two status (inr (inr e)) two = cc
+  four : (status ≡ pos 0) ⊎ (status ≡ pos 1) ⊎ (status ≡ pos 4) → (status ≡ pos 0) ⊎ (status ≡ pos 1) ⊎ (status ≡ pos 2) ⊎ (status ≡ pos 4)
+  four (inl e) = inl e
+  four (inr (inl e)) = inr (inl e)
+  four (inr (inr e)) = inr (inr (inr e))
 
-pub answered : (refused : Option ArgumentFault) (status : ℤ) (old new : List ℕ) (count : ℕ) → refused ≡ None → IsStatus None status
-    → (status ≡ pos 0) ⊎ (count ≤ 128) → IsTold refused status old new count
-answered refused status old new count none only short = record {
-  only = subst (λ (r : Option ArgumentFault). IsStatus r status) (sym none) only;
-  argument = λ two. absurd (never_two status only two);
-  short = short;
-}
+  not_two : (status ≡ pos 0) ⊎ (status ≡ pos 1) ⊎ (status ≡ pos 4) → status ≡ pos 2 → ⊥
+  not_two (inl e) two = let f = apart status 0 2 e two in absurd (omega (arith, f))
+  not_two (inr (inl e)) two = let f = apart status 1 2 e two in absurd (omega (arith, f))
+  not_two (inr (inr e)) two = let f = apart status 4 2 e two in absurd (omega (arith, f))
 
--- where one is, or there was no memory for one
+  pub run_told : IsCall (Ok q) inputs status old new count
+  run_told = record {
+    written = written;
+    refused = λ one. refused_by made err (is_refused one);
+    argument = λ two. absurd (not_two only two);
+    only = four only;
+    short = short;
+  }
+
+-- ---- what is told where an argument is refused, or there was no memory
+
 short_text : (fault : ArgumentFault) → length (argument_text_of fault) ≤ 128
 short_text LogName = omega arith
 short_text Sites = omega arith
@@ -73,7 +78,7 @@ short_text Salt = omega arith
 short_text NoUnit = omega arith
 short_text NoMemory = omega arith
 
-two_or_four : (fault : ArgumentFault) → (pos (argument_status_of fault) ≡ pos 2) ⊎ (pos (argument_status_of fault) ≡ pos 4)
+two_or_four : (fault : ArgumentFault) → (argument_status_of fault ≡ 2) ⊎ (argument_status_of fault ≡ 4)
 two_or_four LogName = inl refl
 two_or_four Sites = inl refl
 two_or_four Letter = inl refl
@@ -84,31 +89,34 @@ two_or_four Salt = inl refl
 two_or_four NoUnit = inl refl
 two_or_four NoMemory = inr refl
 
-without_memory : (refused : Option ArgumentFault) → IsStatus refused (pos 4)
-without_memory None = inr (inr refl)
-without_memory (Some fault) = inr refl
+module _ (asked : Result Request ArgumentFault) (inputs : List (List ℕ)) (fault : ArgumentFault) (status : ℤ) (old new : List ℕ) (count : ℕ)
+    (is : status ≡ pos (argument_status_of fault)) (out : IsHandedOut (λ text. text ≡ argument_text_of fault) old new count) where
+  -- any other status is none of a fault
+  never : (n : ℕ) → (n ≡ 2 → ⊥) → (n ≡ 4 → ⊥) → status ≡ pos n → ⊥
+  never n f g e = by (two_or_four fault)
+    where
+      by : (argument_status_of fault ≡ 2) ⊎ (argument_status_of fault ≡ 4) → ⊥
+      by (inl two) = f (apart status n (argument_status_of fault) e is ∙ two)
+      by (inr four) = g (apart status n (argument_status_of fault) e is ∙ four)
 
-pub argument_refused : (refused : Option ArgumentFault) (fault : ArgumentFault) (status : ℤ) (old new : List ℕ) (count : ℕ)
-    → IsArgumentFault refused fault → status ≡ pos (argument_status_of fault)
-    → IsHandedOut (λ text. text ≡ argument_text_of fault) old new count → IsTold refused status old new count
-argument_refused refused fault status old new count is e out = record {
-  only = only is;
-  argument = argument is;
-  short = inr (subst (λ n. n ≤ 128) (sym (out.all ∙ ap length out.made)) (short_text fault));
-}
-  where
-    only : IsArgumentFault refused fault → IsStatus refused status
-    only (inl memory) = subst (λ s. IsStatus refused s) (sym (e ∙ ap (λ f. pos (argument_status_of f)) memory)) (without_memory refused)
-    only (inr some) = subst (λ r. IsStatus r status) (sym some) (subst (λ s. (s ≡ pos 2) ⊎ (s ≡ pos 4)) (sym e) (two_or_four fault))
+  only : (argument_status_of fault ≡ 2) ⊎ (argument_status_of fault ≡ 4)
+      → (status ≡ pos 0) ⊎ (status ≡ pos 1) ⊎ (status ≡ pos 2) ⊎ (status ≡ pos 4)
+  only (inl e) = inr (inr (inl (is ∙ ap pos e)))
+  only (inr e) = inr (inr (inr (is ∙ ap pos e)))
 
-    four : (s : ℤ) → s ≡ pos 4 → s ≡ pos 2 → ⊥
-    four s a b = cc
+  same_fault : (f g : ArgumentFault) → ◌≡◌ {A = Result Request ArgumentFault} (Err f) (Err g) → f ≡ g
+  same_fault f g e = cc
 
-    argument : IsArgumentFault refused fault → status ≡ pos 2 → IsHandedOut (λ text. option_map argument_text_of refused ≡ Some text) old new count
-    argument (inl memory) two = absurd (four status (e ∙ ap (λ f. pos (argument_status_of f)) memory) two)
-    argument (inr some) two = record {
-      text = out.text;
-      made = ap (option_map argument_text_of) some ∙ ap Some (sym out.made);
-      fits = out.fits;
-      all = out.all;
-    }
+  argument : IsAsked asked (Err fault) → status ≡ pos 2 → IsErrAnd asked (λ f. IsHandedOut (λ text. text ≡ argument_text_of f) old new count)
+  argument (inl e) two =
+      let f = apart status 2 (argument_status_of fault) two is ∙ ap argument_status_of (same_fault fault NoMemory e) in absurd (omega (arith, f))
+  argument (inr e) two = subst (λ a. IsErrAnd a (λ f. IsHandedOut (λ text. text ≡ argument_text_of f) old new count)) e out
+
+  pub refusal_told : IsAsked asked (Err fault) → IsCall asked inputs status old new count
+  refusal_told given = record {
+    written = λ e. absurd (never 0 (λ f. omega (arith, f)) (λ f. omega (arith, f)) e);
+    refused = λ e. absurd (never 1 (λ f. omega (arith, f)) (λ f. omega (arith, f)) e);
+    argument = argument given;
+    only = only (two_or_four fault);
+    short = inr (subst (λ n. n ≤ 128) (sym (out.all ∙ ap length out.made)) (short_text fault));
+  }

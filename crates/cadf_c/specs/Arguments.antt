@@ -1,19 +1,22 @@
--- Arguments of a C program's, and why one is refused.
---     log_given, number_given                what stands for none: no bytes, and 0
---     log_refused log                        which argument of `join` is refused, if any
---     split_refused by log                   the first that is refused of `split`
---     ruling_refused letter key place        of `rule`
---     rehearsal_refused log sites            of `rehearse`
---     sketch_refused cells salt              of `sketch`
---     IsArgumentFault refused fault          the fault is that argument's, or an allocation failed
-use Rattle.std.specs.Prelude.{◌≡◌, ◌⊎◌, ℕ, nat_eq, Bool, ◌&&◌, ◌||◌, if◌then◌else◌, List, [], ◌∷◌, Option, Some, None, is_some, encode_utf8}
+-- What a C program's arguments ask for, or which of them is refused: the first in this order.
+--     log_given, number_given              what stands for none: no bytes, and 0
+--     join_asked log                       what is asked of `join`
+--     split_asked by log                   of `split`
+--     ruling_asked letter key place        of `rule`
+--     rehearsal_asked log sites            of `rehearse`
+--     sketch_asked cells salt              of `sketch`
+--     IsAsked asked given                  this is given, or there was no memory for it
+use Rattle.std.specs.Prelude.{◌≡◌, ◌⊎◌, ℕ, nat_eq, Bool, true, ◌&&◌, ◌||◌, if◌then◌else◌, List, [], ◌∷◌, Option, Some, None, Result, Ok, Err, encode_utf8}
 use Rattle.std.specs.Str.{is_utf8}
 use Rattle.cadf_event.specs.Names.{is_name}
 use Rattle.cadf_line.specs.RulingTexts.{is_value_letter}
 use Rattle.cadf_sketch.specs.Layouts.{are_cells, is_salt}
+use Rattle.cadf_split.specs.declared.unit.Unit as time
 use Rattle.cadf_arguments.specs.Arguments.{is_place, is_site_count, unit_named}
 use Rattle.cadf_arguments.specs.declared.fault.ArgumentFault.{ArgumentFault}
 use Rattle.cadf_arguments.specs.declared.fault.ArgumentFault.TheVariants.{LogName, Sites, Letter, Key, Place, Cells, Salt, Unit, Memory}
+use Rattle.cadf_tool.specs.declared.request.Request.{Request}
+use Rattle.cadf_tool.specs.declared.request.Request.TheVariants as ask
 
 -- no bytes are no log, since no name is empty
 abbrev pub log_given : List ℕ → Option (List ℕ)
@@ -28,26 +31,35 @@ number_given n = if nat_eq n 0 then None else Some n
 abbrev pub spells_name : List ℕ → Bool
 spells_name bytes = is_utf8 bytes && is_name bytes
 
--- refused for that fault if the test fails, else for the first of those after it
-abbrev pub unless : Bool → ArgumentFault → Option ArgumentFault → Option ArgumentFault
-unless accepts fault others = if accepts then others else Some fault
+abbrev pub is_log : List ℕ → Bool
+is_log [] = true
+is_log (b ∷ bs) = spells_name (b ∷ bs)
 
-abbrev pub log_refused : List ℕ → Option ArgumentFault
-log_refused [] = None
-log_refused (b ∷ bs) = unless (spells_name (b ∷ bs)) LogName None
+-- refused for that fault if the test fails, else what the others ask
+abbrev pub unless : {A : Type 0} → Bool → ArgumentFault → Result A ArgumentFault → Result A ArgumentFault
+unless accepts fault others = if accepts then others else Err fault
 
-abbrev pub split_refused : List ℕ → List ℕ → Option ArgumentFault
-split_refused by log = unless (is_some (unit_named by)) Unit (log_refused log)
+abbrev pub join_asked : List ℕ → Result Request ArgumentFault
+join_asked log = unless (is_log log) LogName (Ok (ask.Join (log_given log)))
 
-abbrev pub ruling_refused : ℕ → List ℕ → ℕ → Option ArgumentFault
-ruling_refused letter key place =
-    unless (is_value_letter (encode_utf8 letter)) Letter (unless (spells_name key) Key (unless (is_place place) Place None))
+abbrev pub split_by : Option time.Unit → List ℕ → Result Request ArgumentFault
+split_by None log = Err Unit
+split_by (Some unit) log = unless (is_log log) LogName (Ok (ask.Split unit (log_given log)))
 
-abbrev pub rehearsal_refused : List ℕ → ℕ → Option ArgumentFault
-rehearsal_refused log sites = unless (spells_name log) LogName (unless (is_site_count sites) Sites None)
+abbrev pub split_asked : List ℕ → List ℕ → Result Request ArgumentFault
+split_asked by log = split_by (unit_named by) log
 
-abbrev pub sketch_refused : ℕ → ℕ → Option ArgumentFault
-sketch_refused cells salt = unless (nat_eq cells 0 || are_cells cells) Cells (unless (nat_eq salt 0 || is_salt salt) Salt None)
+abbrev pub ruling_asked : ℕ → List ℕ → ℕ → Result Request ArgumentFault
+ruling_asked letter key place =
+    unless (is_value_letter (encode_utf8 letter)) Letter (unless (spells_name key) Key (unless (is_place place) Place (Ok (ask.Rule letter key place))))
 
-abbrev pub IsArgumentFault : Option ArgumentFault → ArgumentFault → Type 0
-IsArgumentFault refused fault = (fault ≡ Memory) ⊎ (refused ≡ Some fault)
+abbrev pub rehearsal_asked : List ℕ → ℕ → Result Request ArgumentFault
+rehearsal_asked log sites = unless (spells_name log) LogName (unless (is_site_count sites) Sites (Ok (ask.Rehearse log sites)))
+
+abbrev pub sketch_asked : ℕ → ℕ → Result Request ArgumentFault
+sketch_asked cells salt =
+    unless (nat_eq cells 0 || are_cells cells) Cells
+    (unless (nat_eq salt 0 || is_salt salt) Salt (Ok (ask.Sketch (number_given cells) (number_given salt))))
+
+abbrev pub IsAsked : {A : Type 0} → Result A ArgumentFault → Result A ArgumentFault → Type 0
+IsAsked asked given = (given ≡ Err Memory) ⊎ (given ≡ asked)

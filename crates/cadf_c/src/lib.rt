@@ -1,47 +1,20 @@
-//! The engines over bytes in memory, for C. bindings/c/cadf.h declares them and says what each caller owes.
+//! Requests over bytes in memory, for C. bindings/c/cadf.h declares them and says what each caller owes.
 #![tactic(auto)]
 
-ghost use Rattle.std.specs.Prelude.{◌≡◌, pos, Some, None, encode_utf8};
-ghost use Rattle.cadf_inventory.specs.InventoryFile.{inventory_file};
-ghost use Rattle.cadf_tool.specs.Run.{input_spec};
-ghost use Rattle.cadf_tool.specs.ModelInput.{inventory_spec, sketch_spec, seal_spec, proof_spec};
-ghost use Rattle.cadf_tool.specs.Told.{replica_model_of};
-ghost use Rattle.cadf_tool.specs.Shown.{shown_text, checked_text};
-ghost use Rattle.cadf_tool.specs.Missing.{delta_between};
-ghost use Rattle.cadf_tool.specs.MissingBy.{inventory_model_of, part_by};
-ghost use Rattle.cadf_sketch.specs.SketchFile.{sketch_file};
-ghost use Rattle.cadf_tool.specs.Sketch.{sketch_model_of, IsPartBySketch};
-ghost use Rattle.cadf_seal.specs.SealFile.{seal_file};
-ghost use Rattle.cadf_seal.specs.ProofFile.{proof_file};
-ghost use Rattle.cadf_tool.specs.Seal.{seal_model_of};
-ghost use Rattle.cadf_tool.specs.Prove.{proof_of_union};
-ghost use Rattle.cadf_tool.specs.Verify.{verdict_of};
-ghost use Rattle.cadf_tool.specs.Rule.{ruled_of};
-ghost use Rattle.cadf_tool.specs.Rehearse.{script_spec, final_sites};
-ghost use Rattle.cadf_tool.specs.Sites.{sites_text};
-ghost use Rattle.cadf_tool.specs.Join.{join_of};
-ghost use Rattle.cadf_tool.specs.WrittenFile.{written_file};
-ghost use Rattle.cadf_split.specs.declared.unit.Unit.{Unit};
-ghost use Rattle.cadf_split.specs.Split.{split_text};
-ghost use Rattle.cadf_arguments.specs.Arguments.{unit_named};
+ghost use Rattle.std.specs.Prelude.{[], ◌∷◌, Ok};
 ghost use Rattle.cadf_memory.specs.Memory.{bytes_in};
-ghost use Rattle.cadf_memory.specs.Handed.{IsHandedOut};
-ghost use Rattle.cadf_memory.specs.Made.{IsMadeOf, IsMadeOfTwo, IsMadeOfTwoBy, IsMadeOfThree, IsMadeOfAll, IsMadeOfOneAndAll};
-ghost use Rattle.cadf_memory.specs.Refused.{IsFirstOf, IsFirstOfTwo, IsFirstOfTwoBy, IsFirstOfThree, IsFirstOfAll, IsFirstOfOneAndAll};
-ghost use Rattle.cadf_c.specs.Statuses.{IsRefused, IsTold};
-ghost use Rattle.cadf_c.specs.Arguments.{log_given, number_given, log_refused, split_refused, ruling_refused, rehearsal_refused, sketch_refused};
+ghost use Rattle.cadf_tool.specs.declared.request.Request.TheVariants as ask;
+ghost use Rattle.cadf_c.specs.Statuses.{IsCall};
+ghost use Rattle.cadf_c.specs.Arguments.{join_asked, split_asked, ruling_asked, rehearsal_asked, sketch_asked};
 
 mod arguments;
 mod output;
 
-use crate::arguments::{join_given, rehearsal_given, ruling_given, sketch_given, split_given};
-use crate::output::{answer, refuse};
+use crate::arguments::{after, join_of, rehearsal_of, ruling_of, sketch_of, split_of};
+use crate::output::{call, call_given, refuse};
+use cadf_arguments::ArgumentFault;
 pub use cadf_memory::CadfBytes;
-use cadf_memory::{Buffer, over_one, prove, verify};
-use cadf_tool::{
-    InventoryEngine, RuleEngine, SealEngine, ShowEngine, SketchEngine, run_check, run_join,
-    run_missing, run_missing_by, run_missing_by_sketch, run_rehearse, run_split,
-};
+use cadf_tool::Request;
 use std::alloc::Global;
 
 /// The version of the command, which `cadf --version` prints.
@@ -58,7 +31,6 @@ pub extern "C" fn cadf_version() -> u32 {
 }
 
 /// Hands out the log of the input, or with `conflicts` the list of its conflicts.
-#[tactic(auto, using(crate::proofs::Statuses::refused, crate::proofs::Statuses::answered, crate::proofs::Statuses::argument_refused))]
 #[unsafe(no_mangle)]
 pub extern "C" fn cadf_show(
     alloc: Global,
@@ -67,14 +39,15 @@ pub extern "C" fn cadf_show(
     output: &mut [u8],
     length: &mut usize,
 ) -> i32
-    ensures written { result ≡ pos 0 → IsHandedOut
-        (IsMadeOf input_spec replica_model_of (shown_text conflicts) input.now.bytes.now)
-        output.old output.new length.new }
-    ensures refused { result ≡ pos 1 → IsRefused (IsFirstOf input_spec replica_model_of input.now.bytes.now) }
-    ensures told { IsTold None result output.old output.new length.new }
+    ensures { IsCall (Ok (ask.Show conflicts)) (input.now.bytes.now ∷ []) result output.old output.new length.new }
 {
-    let made = over_one(alloc, &ShowEngine { conflicts }, input, output);
-    answer(made, output, length)
+    call(
+        alloc,
+        Request::Show { conflicts },
+        &[*input],
+        output,
+        length,
+    )
 }
 
 /// Hands out the line that says what the input holds.
@@ -85,19 +58,12 @@ pub extern "C" fn cadf_check(
     output: &mut [u8],
     length: &mut usize,
 ) -> i32
-    ensures written { result ≡ pos 0 → IsHandedOut
-        (IsMadeOf input_spec replica_model_of checked_text input.now.bytes.now)
-        output.old output.new length.new }
-    ensures refused { result ≡ pos 1 → IsRefused (IsFirstOf input_spec replica_model_of input.now.bytes.now) }
-    ensures told { IsTold None result output.old output.new length.new }
+    ensures { IsCall (Ok ask.Check) (input.now.bytes.now ∷ []) result output.old output.new length.new }
 {
-    let mut buffer = Buffer::new(output);
-    let run = run_check(alloc, &mut input.source(), &mut buffer);
-    answer(buffer.told(run), output, length)
+    call(alloc, Request::Check, &[*input], output, length)
 }
 
 /// Hands out the inventory file of the input.
-#[tactic(auto, using(crate::proofs::Statuses::refused, crate::proofs::Statuses::answered, crate::proofs::Statuses::argument_refused))]
 #[unsafe(no_mangle)]
 pub extern "C" fn cadf_inventory(
     alloc: Global,
@@ -105,18 +71,12 @@ pub extern "C" fn cadf_inventory(
     output: &mut [u8],
     length: &mut usize,
 ) -> i32
-    ensures written { result ≡ pos 0 → IsHandedOut
-        (IsMadeOf input_spec inventory_model_of inventory_file input.now.bytes.now)
-        output.old output.new length.new }
-    ensures refused { result ≡ pos 1 → IsRefused (IsFirstOf input_spec inventory_model_of input.now.bytes.now) }
-    ensures told { IsTold None result output.old output.new length.new }
+    ensures { IsCall (Ok ask.Inventory) (input.now.bytes.now ∷ []) result output.old output.new length.new }
 {
-    let made = over_one(alloc, &InventoryEngine, input, output);
-    answer(made, output, length)
+    call(alloc, Request::Inventory, &[*input], output, length)
 }
 
 /// Hands out the seal file of the input.
-#[tactic(auto, using(crate::proofs::Statuses::refused, crate::proofs::Statuses::answered, crate::proofs::Statuses::argument_refused))]
 #[unsafe(no_mangle)]
 pub extern "C" fn cadf_seal(
     alloc: Global,
@@ -124,18 +84,12 @@ pub extern "C" fn cadf_seal(
     output: &mut [u8],
     length: &mut usize,
 ) -> i32
-    ensures written { result ≡ pos 0 → IsHandedOut
-        (IsMadeOf input_spec seal_model_of seal_file input.now.bytes.now)
-        output.old output.new length.new }
-    ensures refused { result ≡ pos 1 → IsRefused (IsFirstOf input_spec seal_model_of input.now.bytes.now) }
-    ensures told { IsTold None result output.old output.new length.new }
+    ensures { IsCall (Ok ask.Seal) (input.now.bytes.now ∷ []) result output.old output.new length.new }
 {
-    let made = over_one(alloc, &SealEngine, input, output);
-    answer(made, output, length)
+    call(alloc, Request::Seal, &[*input], output, length)
 }
 
 /// Hands out the proof file, under the seal of all inputs, for the facts of `facts`, which is counted first.
-#[tactic(auto, using(crate::proofs::Statuses::refused, crate::proofs::Statuses::answered, crate::proofs::Statuses::argument_refused))]
 #[unsafe(no_mangle)]
 pub extern "C" fn cadf_prove(
     alloc: Global,
@@ -144,19 +98,16 @@ pub extern "C" fn cadf_prove(
     output: &mut [u8],
     length: &mut usize,
 ) -> i32
-    ensures written { result ≡ pos 0 → IsHandedOut
-        (IsMadeOfOneAndAll input_spec proof_of_union proof_file facts.now.bytes.now (bytes_in inputs.now))
-        output.old output.new length.new }
-    ensures refused { result ≡ pos 1 → IsRefused (IsFirstOfOneAndAll input_spec proof_of_union facts.now.bytes.now (bytes_in inputs.now)) }
-    ensures told { IsTold None result output.old output.new length.new }
+    ensures { IsCall (Ok ask.Prove) (facts.now.bytes.now ∷ bytes_in inputs.now) result output.old output.new length.new }
 {
-    let made = prove(alloc, facts, inputs, output);
-    answer(made, output, length)
+    match after(alloc, facts, inputs) {
+        Ok(all) => call(alloc, Request::Prove, &all, output, length),
+        Err(_) => refuse(ArgumentFault::Memory, output, length),
+    }
 }
 
 /// Hands out a line for each fact of `facts`, if the proof shows under the seal that each is in the sealed set; with
 /// `absent`, that none is.
-#[tactic(auto, using(crate::proofs::Statuses::refused, crate::proofs::Statuses::answered, crate::proofs::Statuses::argument_refused))]
 #[unsafe(no_mangle)]
 pub extern "C" fn cadf_verify(
     alloc: Global,
@@ -167,15 +118,10 @@ pub extern "C" fn cadf_verify(
     output: &mut [u8],
     length: &mut usize,
 ) -> i32
-    ensures written { result ≡ pos 0 → IsHandedOut
-        (IsMadeOfThree seal_spec input_spec proof_spec (verdict_of absent) (λ text. text) seal.now.bytes.now facts.now.bytes.now proof.now.bytes.now)
-        output.old output.new length.new }
-    ensures refused { result ≡ pos 1 → IsRefused
-        (IsFirstOfThree seal_spec input_spec proof_spec (verdict_of absent) seal.now.bytes.now facts.now.bytes.now proof.now.bytes.now) }
-    ensures told { IsTold None result output.old output.new length.new }
+    ensures { IsCall (Ok (ask.Verify absent)) (seal.now.bytes.now ∷ facts.now.bytes.now ∷ proof.now.bytes.now ∷ []) result output.old output.new length.new }
 {
-    let made = verify(alloc, absent, seal, facts, proof, output);
-    answer(made, output, length)
+    let inputs = [*seal, *facts, *proof];
+    call(alloc, Request::Verify { absent }, &inputs, output, length)
 }
 
 /// Hands out the replica file of what `to` lacks of `from`.
@@ -187,15 +133,15 @@ pub extern "C" fn cadf_missing(
     output: &mut [u8],
     length: &mut usize,
 ) -> i32
-    ensures written { result ≡ pos 0 → IsHandedOut
-        (IsMadeOfTwo input_spec input_spec delta_between written_file from.now.bytes.now to.now.bytes.now)
-        output.old output.new length.new }
-    ensures refused { result ≡ pos 1 → IsRefused (IsFirstOfTwo input_spec input_spec delta_between from.now.bytes.now to.now.bytes.now) }
-    ensures told { IsTold None result output.old output.new length.new }
+    ensures { IsCall (Ok (ask.Missing 1)) (from.now.bytes.now ∷ to.now.bytes.now ∷ []) result output.old output.new length.new }
 {
-    let mut buffer = Buffer::new(output);
-    let run = run_missing(alloc, &mut from.source(), &mut to.source(), &mut buffer);
-    answer(buffer.told(run), output, length)
+    call(
+        alloc,
+        Request::Missing { from: 1 },
+        &[*from, *to],
+        output,
+        length,
+    )
 }
 
 /// Hands out the replica file of what `from` has beyond the inventory.
@@ -207,15 +153,9 @@ pub extern "C" fn cadf_missing_by(
     output: &mut [u8],
     length: &mut usize,
 ) -> i32
-    ensures written { result ≡ pos 0 → IsHandedOut
-        (IsMadeOfTwo input_spec inventory_spec part_by written_file from.now.bytes.now held.now.bytes.now)
-        output.old output.new length.new }
-    ensures refused { result ≡ pos 1 → IsRefused (IsFirstOfTwo input_spec inventory_spec part_by from.now.bytes.now held.now.bytes.now) }
-    ensures told { IsTold None result output.old output.new length.new }
+    ensures { IsCall (Ok ask.MissingBy) (from.now.bytes.now ∷ held.now.bytes.now ∷ []) result output.old output.new length.new }
 {
-    let mut buffer = Buffer::new(output);
-    let run = run_missing_by(alloc, &mut from.source(), &mut held.source(), &mut buffer);
-    answer(buffer.told(run), output, length)
+    call(alloc, Request::MissingBy, &[*from, *held], output, length)
 }
 
 /// Hands out the replica file of the input with one ruling more, for the value at that place of the key's
@@ -230,20 +170,10 @@ pub extern "C" fn cadf_rule(
     output: &mut [u8],
     length: &mut usize,
 ) -> i32
-    ensures written { result ≡ pos 0 → IsHandedOut
-        (IsMadeOf input_spec (ruled_of (encode_utf8 letter) key.now.bytes.now place) written_file input.now.bytes.now)
-        output.old output.new length.new }
-    ensures refused { result ≡ pos 1 → IsRefused (IsFirstOf input_spec (ruled_of (encode_utf8 letter) key.now.bytes.now place) input.now.bytes.now) }
-    ensures told { IsTold (ruling_refused letter key.now.bytes.now place) result output.old output.new length.new }
+    ensures { IsCall (ruling_asked letter key.now.bytes.now place) (input.now.bytes.now ∷ []) result output.old output.new length.new }
 {
-    match ruling_given(alloc, letter, key.bytes, place) {
-        Ok((letter, key, place)) => {
-            let key = &key;
-            let made = over_one(alloc, &RuleEngine { letter, key, place }, input, output);
-            answer(made, output, length)
-        }
-        Err(fault) => refuse(fault, output, length),
-    }
+    let given = ruling_of(alloc, letter, key.bytes, place);
+    call_given(alloc, given, &[*input], output, length)
 }
 
 /// Hands out a line for each site of the log after the schedule of the script.
@@ -256,24 +186,13 @@ pub extern "C" fn cadf_rehearse(
     output: &mut [u8],
     length: &mut usize,
 ) -> i32
-    ensures written { result ≡ pos 0 → IsHandedOut
-        (IsMadeOf script_spec (final_sites log.now.bytes.now sites) sites_text script.now.bytes.now)
-        output.old output.new length.new }
-    ensures refused { result ≡ pos 1 → IsRefused (IsFirstOf script_spec (final_sites log.now.bytes.now sites) script.now.bytes.now) }
-    ensures told { IsTold (rehearsal_refused log.now.bytes.now sites) result output.old output.new length.new }
+    ensures { IsCall (rehearsal_asked log.now.bytes.now sites) (script.now.bytes.now ∷ []) result output.old output.new length.new }
 {
-    match rehearsal_given(alloc, log.bytes, sites) {
-        Ok((log, sites)) => {
-            let mut buffer = Buffer::new(output);
-            let run = run_rehearse(alloc, &log, sites, &mut script.source(), &mut buffer);
-            answer(buffer.told(run), output, length)
-        }
-        Err(fault) => refuse(fault, output, length),
-    }
+    let given = rehearsal_of(alloc, log.bytes, sites);
+    call_given(alloc, given, &[*script], output, length)
 }
 
 /// Hands out the sketch file of the input: of so many cells, 0 for 198, and with that salt, 0 for the input's own.
-#[tactic(auto, using(crate::proofs::Statuses::refused, crate::proofs::Statuses::answered, crate::proofs::Statuses::argument_refused))]
 #[unsafe(no_mangle)]
 pub extern "C" fn cadf_sketch(
     alloc: Global,
@@ -283,19 +202,10 @@ pub extern "C" fn cadf_sketch(
     output: &mut [u8],
     length: &mut usize,
 ) -> i32
-    ensures written { result ≡ pos 0 → IsHandedOut
-        (IsMadeOf input_spec (sketch_model_of (number_given cells) (number_given salt)) sketch_file input.now.bytes.now)
-        output.old output.new length.new }
-    ensures refused { result ≡ pos 1 → IsRefused (IsFirstOf input_spec (sketch_model_of (number_given cells) (number_given salt)) input.now.bytes.now) }
-    ensures told { IsTold (sketch_refused cells salt) result output.old output.new length.new }
+    ensures { IsCall (sketch_asked cells salt) (input.now.bytes.now ∷ []) result output.old output.new length.new }
 {
-    match sketch_given(cells, salt) {
-        Ok((cells, salt)) => {
-            let made = over_one(alloc, &SketchEngine { cells, salt }, input, output);
-            answer(made, output, length)
-        }
-        Err(fault) => refuse(fault, output, length),
-    }
+    let given = sketch_of(cells, salt);
+    call_given(alloc, given, &[*input], output, length)
 }
 
 /// Hands out the replica file of what `from` has beyond the sketch.
@@ -307,15 +217,15 @@ pub extern "C" fn cadf_missing_by_sketch(
     output: &mut [u8],
     length: &mut usize,
 ) -> i32
-    ensures written { result ≡ pos 0 → IsHandedOut
-        (IsMadeOfTwoBy input_spec sketch_spec IsPartBySketch written_file from.now.bytes.now held.now.bytes.now)
-        output.old output.new length.new }
-    ensures refused { result ≡ pos 1 → IsRefused (IsFirstOfTwoBy input_spec sketch_spec IsPartBySketch from.now.bytes.now held.now.bytes.now) }
-    ensures told { IsTold None result output.old output.new length.new }
+    ensures { IsCall (Ok ask.MissingBySketch) (from.now.bytes.now ∷ held.now.bytes.now ∷ []) result output.old output.new length.new }
 {
-    let mut buffer = Buffer::new(output);
-    let run = run_missing_by_sketch(alloc, &mut from.source(), &mut held.source(), &mut buffer);
-    answer(buffer.told(run), output, length)
+    call(
+        alloc,
+        Request::MissingBySketch,
+        &[*from, *held],
+        output,
+        length,
+    )
 }
 
 /// Hands out the replica file of what all inputs contribute, under the given log or else the first that an
@@ -328,20 +238,10 @@ pub extern "C" fn cadf_join(
     output: &mut [u8],
     length: &mut usize,
 ) -> i32
-    ensures written { result ≡ pos 0 → IsHandedOut
-        (IsMadeOfAll (join_of (log_given log.now.bytes.now)) written_file (bytes_in inputs.now))
-        output.old output.new length.new }
-    ensures refused { result ≡ pos 1 → IsRefused (IsFirstOfAll (join_of (log_given log.now.bytes.now)) (bytes_in inputs.now)) }
-    ensures told { IsTold (log_refused log.now.bytes.now) result output.old output.new length.new }
+    ensures { IsCall (join_asked log.now.bytes.now) (bytes_in inputs.now) result output.old output.new length.new }
 {
-    match join_given(alloc, log.bytes, inputs) {
-        Ok((log, mut inputs)) => {
-            let mut buffer = Buffer::new(output);
-            let run = run_join(alloc, log, &mut inputs, &mut buffer);
-            answer(buffer.told(run), output, length)
-        }
-        Err(fault) => refuse(fault, output, length),
-    }
+    let given = join_of(alloc, log.bytes);
+    call_given(alloc, given, inputs, output, length)
 }
 
 /// Hands out the split file of what all inputs contribute, by the unit that has that word. The log is that of `cadf_join`.
@@ -354,18 +254,8 @@ pub extern "C" fn cadf_split(
     output: &mut [u8],
     length: &mut usize,
 ) -> i32
-    ensures written { result ≡ pos 0 → (unit : Unit) × (unit_named by.now.bytes.now ≡ Some unit) × IsHandedOut
-        (IsMadeOfAll (join_of (log_given log.now.bytes.now)) (split_text unit) (bytes_in inputs.now))
-        output.old output.new length.new }
-    ensures refused { result ≡ pos 1 → IsRefused (IsFirstOfAll (join_of (log_given log.now.bytes.now)) (bytes_in inputs.now)) }
-    ensures told { IsTold (split_refused by.now.bytes.now log.now.bytes.now) result output.old output.new length.new }
+    ensures { IsCall (split_asked by.now.bytes.now log.now.bytes.now) (bytes_in inputs.now) result output.old output.new length.new }
 {
-    match split_given(alloc, by.bytes, log.bytes, inputs) {
-        Ok((unit, log, mut inputs)) => {
-            let mut buffer = Buffer::new(output);
-            let run = run_split(alloc, unit, log, &mut inputs, &mut buffer);
-            answer(buffer.told(run), output, length)
-        }
-        Err(fault) => refuse(fault, output, length),
-    }
+    let given = split_of(alloc, by.bytes, log.bytes);
+    call_given(alloc, given, inputs, output, length)
 }

@@ -1,6 +1,4 @@
-pub mod SliceSources
 pub mod Outcomes
 pub mod Walks
 pub mod Stored
 pub mod Framed
-pub mod Exchange

@@ -1,7 +1,7 @@
 //! A buffer that is written to as far as it has room.
 ghost use Rattle.std.specs.Prelude.{◌≡◌, [], ◌∷◌, ◌++◌, true, Some, Ok, Err, IfErr, MatchResult, length as length_of};
 ghost use Rattle.cadf_memory.specs.Handed.{handed};
-ghost use Rattle.cadf_memory.specs.Refused.{fault_in_memory_of, is_of_memory};
+ghost use Rattle.cadf_memory.specs.Made.{fault_in_memory_of, is_of_memory};
 
 use crate::ghost_bytes::{GhostBytes, Given};
 use cadf_json::{Failed, Sink};
@@ -10,7 +10,7 @@ use cadf_tool::ToolFault;
 /// A buffer that is written to: bytes for which it has no room are counted. A write fails only if the count has no
 /// 64 bits.
 #[derive(Drop)]
-pub struct Buffer<'o> {
+pub(crate) struct Buffer<'o> {
     output: &'o mut [u8],
     length: usize,
     writes: u64,
@@ -25,7 +25,7 @@ impl<'o> Buffer<'o> {
     ghost use Rattle.cadf_memory.specs.Buffers.{buffer_name, buffer_before, buffer_text};
 
     /// Returns a buffer to which nothing was written.
-    pub fn new(output: &'o mut [u8]) -> Buffer<'o>
+    pub(crate) fn new(output: &'o mut [u8]) -> Buffer<'o>
         ensures same { buffer_name result ≡ output.entry.ghost_name }
         ensures before { buffer_before result ≡ output.old }
         ensures text { buffer_text result ≡ [] }
@@ -43,7 +43,7 @@ impl<'o> Buffer<'o> {
 
     /// Returns the length of what an engine wrote, with the bytes that are only counted. `Err`: its fault; no read fails in
     /// memory, and a text that is too long to count has no memory.
-    pub fn told(&self, run: Result<(), ToolFault>) -> Result<usize, ToolFault>
+    pub(crate) fn told(&self, run: Result<(), ToolFault>) -> Result<usize, ToolFault>
         ensures same { MatchResult run (λ _. result ≡ Ok (length_of (buffer_text self.now))) (λ fault. result ≡ Err (fault_in_memory_of fault)) }
         ensures only { IfErr result (λ fault. is_of_memory fault ≡ true) }
     {

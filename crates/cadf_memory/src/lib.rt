@@ -1,12 +1,11 @@
-//! Bytes in memory as inputs of the engines, and a buffer for what they write.
+//! Bytes in memory as sources of a request, and a buffer for what is written.
 #![tactic(auto)]
 
 mod buffer;
-mod engines;
 mod ghost_bytes;
 pub mod laws;
+mod request;
 mod slice_source;
 
-pub use crate::buffer::Buffer;
-pub use crate::engines::{over_one, prove, verify};
-pub use crate::slice_source::{CadfBytes, SliceSource, sources};
+pub use crate::request::over;
+pub use crate::slice_source::CadfBytes;

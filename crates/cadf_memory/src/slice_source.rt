@@ -1,42 +1,35 @@
 //! Bytes in memory that are read.
 ghost use Rattle.std.specs.Prelude.{◌≡◌, Some, IfOk, map};
-ghost use Rattle.cadf_memory.specs.Memory.{slice_left, bytes_in};
+ghost use Rattle.cadf_memory.specs.Memory.{slice_state, unread, bytes_in};
 
 use cadf_json::{Failed, Memory, Source};
 use std::alloc::Global;
 
 /// Bytes of the caller's: an address and a length, as C has them.
 #[repr(C)]
+#[derive(Clone, Copy, Drop)]
 pub struct CadfBytes<'b> {
     pub bytes: &'b [u8],
 }
 
-impl<'b> CadfBytes<'b> {
-    /// Returns a source that has all the bytes left.
-    pub fn source(&self) -> SliceSource<'b>
-        ensures { slice_left result ≡ self.now.bytes.now }
-    {
-        SliceSource {
-            left: self.bytes,
-            reads: 0,
-        }
-    }
-}
-
-/// Returns a source for each of the inputs.
-pub fn sources<'b>(alloc: Global, inputs: &[CadfBytes<'b>]) -> Result<Vec<SliceSource<'b>>, Memory>
-    ensures { IfOk result (λ sources. map slice_left sources.items ≡ bytes_in inputs.now) }
+/// Returns a source for each of the inputs, which has all the bytes left.
+pub(crate) fn sources<'b>(
+    alloc: Global,
+    inputs: &[CadfBytes<'b>],
+) -> Result<Vec<SliceSource<'b>>, Memory>
+    ensures { IfOk result (λ sources. map slice_state sources.items ≡ map unread (bytes_in inputs.now)) }
 {
     let mut sources = Vec::new(alloc);
     for input in inputs {
-        sources.push(input.source())?;
+        let left = input.bytes;
+        sources.push(SliceSource { left, reads: 0 })?;
     }
     Ok(sources)
 }
 
 /// Bytes that are read, or borrowed without a copy. No read fails.
 #[derive(Drop)]
-pub struct SliceSource<'b> {
+pub(crate) struct SliceSource<'b> {
     left: &'b [u8],
     reads: u64,
 }

@@ -1,7 +1,7 @@
 use Rattle.std.proofs.Common.{◌≡◌, ◌++◌, map, drop}
-use Rattle.cadf_memory.specs.Memory.{slice_left, bytes_in}
+use Rattle.cadf_memory.specs.Memory.{slice_state, unread, bytes_in}
 use Rattle.cadf_memory.proofs.slice_source.sources.Given as goal
 
 -- a source of each input so far, and those to come
 abbrev pub invariant-loop-input : goal.invariant-loop-input
-invariant-loop-input l = map slice_left l.sources.items ++ bytes_in (drop l.input-index l.inputs) ≡ bytes_in l.inputs
+invariant-loop-input l = map slice_state l.sources.items ++ map unread (bytes_in (drop l.input-index l.inputs)) ≡ map unread (bytes_in l.inputs)

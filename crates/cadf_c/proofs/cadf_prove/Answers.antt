@@ -1,0 +1,11 @@
+use Rattle.std.proofs.Common.{inl, refl, rules, sym, subst, ◌∷◌, Ok, w32}
+use Rattle.std.proofs.lemmas.Int.{to_z-of_z}
+use Rattle.cadf_tool.specs.declared.request.Request.TheVariants as ask
+use Rattle.cadf_memory.specs.Memory.{bytes_in}
+use Rattle.cadf_c.specs.Statuses.{IsCall}
+use Rattle.cadf_c.proofs.cadf_prove.Goals as goal
+
+pub returns-in-Err : goal.returns-in-Err
+returns-in-Err c =
+    subst (λ s. IsCall (Ok ask.Prove) (c.args.facts.now.bytes.now ∷ bytes_in c.args.inputs.now) s c.args.output.now c.refuse.new.output c.refuse.new.length)
+    (sym (to_z-of_z w32 c.refuse.result (search rules))) (c.refuse.ensures _ _ (inl refl))
