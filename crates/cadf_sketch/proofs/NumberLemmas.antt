@@ -19,6 +19,7 @@ use Rattle.std.proofs.lemmas.List.Sums.{split_at_first, passes_at_first, positio
 use Rattle.std.proofs.Math.ListN.{drop_of_length-le}
 use Rattle.std.proofs.Math.Seq.{take-append_seam, drop-append-add}
 use Rattle.std.proofs.lemmas.List.{take_all, take_more_set}
+use Rattle.std.proofs.lemmas.List.Folds.{list_any_at}
 use Rattle.memchr.specs.Find.{IsFirstByte, is_byte}
 use Rattle.cadf_join.specs.laws.Sets.{false_from}
 use Rattle.cadf_sketch.specs.SketchFile.{spelled, AreWords64}
@@ -79,6 +80,9 @@ module _ {E : Type 0} (w : List ℕ) (r : Result ℕ E) (parsed : ParsesUnsigned
 abbrev pub has_blank : List ℕ → Bool
 has_blank w = list_any (λ x. x == 32) w
 
+neither_of : (p q : Bool) → p ≡ false → q ≡ false → (p || q) ≡ false
+neither_of p q e f = (λ i. e i || q) ∙ f
+
 digits_unblank : (ds : List ℕ) → AllDigits 10 ds → has_blank ds ≡ false
 digits_unblank [] p = refl
 digits_unblank (x ∷ xs) p =
@@ -87,9 +91,6 @@ digits_unblank (x ∷ xs) p =
   where
     no_blank : (x : ℕ) → IsInRange 48 57 x → (x == 32) ≡ false
     no_blank x r = grind arith
-
-    neither_of : (p q : Bool) → p ≡ false → q ≡ false → (p || q) ≡ false
-    neither_of p q e f = (λ i. e i || q) ∙ f
 
 pub decimal_unblank : (n : ℕ) → n < 2 ^ 64 → has_blank (decimal n) ≡ false
 decimal_unblank n small = digits_unblank (decimal n) (digits_decimal own n small)
@@ -211,6 +212,17 @@ pub none_after : (text : List ℕ) → IsFirstByte (is_byte 32) text None → wo
 none_after text h =
     let e = position_or_len_is (λ x. x == 32) text (length text) 0 (omega arith) (λ k b. false_from _ (h k (omega arith) b)) (λ l. absurd (omega (arith, l))) in
     drop_of_length-le text (omega (arith, e))
+
+pub blank_there : (text : List ℕ) (k : ℕ) → IsFirstByte (is_byte 32) text (Some k) → true ≡ has_blank text
+blank_there text k h = sym (list_any_at (λ x. x == 32) text k 0 h.0.high h.1)
+
+pub none_there : (text : List ℕ) → IsFirstByte (is_byte 32) text None → false ≡ has_blank text
+none_there text h = sym (none_in text (λ k b. h k (omega arith) b))
+  where
+    none_in : (xs : List ℕ) → ((k : ℕ) → k < length xs → (get_or xs k 0 == 32) ≡ true → ⊥) → has_blank xs ≡ false
+    none_in [] none = refl
+    none_in (x ∷ xs) none =
+        neither_of (x == 32) (has_blank xs) (false_from _ (none 0 (omega arith))) (none_in xs (λ k b. none (suc k) (omega (arith, b))))
 
 -- ---- numbers, one after another
 

@@ -16,5 +16,5 @@ returns-in_err-digest c = grind (arith, common_steps, no_last)
 
 pub returns : goal.returns
 returns c =
-    leaf_read _ _ _ c.in_ok-place.ensures.0 c.in_ok-place.ensures.1 _ _ c.in_ok-place-2.ensures c.in_ok-digest.ensures
+    leaf_read _ _ _ c.in_ok-place.ensures.cut.0 c.in_ok-place.ensures.cut.1 _ _ c.in_ok-place-2.ensures c.in_ok-digest.ensures
     ∙ prefixed leaf_in_words 80 32 c.args.line.now c.in_ok-words.words.now c.in_ok-words.ensures.cases.0 c.in_ok-words.ensures.cases.1

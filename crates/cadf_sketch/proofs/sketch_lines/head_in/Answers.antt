@@ -18,5 +18,5 @@ returns-in_err-digest c = grind (arith, common_steps, no_last)
 
 pub returns : goal.returns
 returns c =
-    head_read _ _ _ _ _ c.in_ok-cells.ensures.0 c.in_ok-cells.ensures.1 c.in_ok-salt.ensures.0 c.in_ok-salt.ensures.1 _ _ c.in_ok-layout.ensures c.in_ok-digest.ensures
+    head_read _ _ _ _ _ c.in_ok-cells.ensures.cut.0 c.in_ok-cells.ensures.cut.1 c.in_ok-salt.ensures.cut.0 c.in_ok-salt.ensures.cut.1 _ _ c.in_ok-layout.ensures c.in_ok-digest.ensures
     ∙ prefixed head_in_words 83 32 c.args.line.now c.in_ok-words.words.now c.in_ok-words.ensures.cases.0 c.in_ok-words.ensures.cases.1
