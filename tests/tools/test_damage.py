@@ -135,7 +135,7 @@ def test_rulings_beside_a_damaged_window(sites):
     assert status == 1 and lines[1:] == ["cadf-conflicts: open 1, settled 0"]
     (sites.path / "choices").write_text(next(line for line in output.splitlines(True) if line[0] == "E"))
     status, output, lines = sites.run("conflicts", "--rule", "choices", "north/")
-    assert status == 0 and output.startswith("CADF-REPLICA 2\n") and left_out("conflicts", FIRST, lines)
+    assert status == 5 and output.startswith("CADF-REPLICA 2\n") and left_out("conflicts", FIRST, lines)
 
 
 def test_files_of_which_the_list_says_which_values_they_hold(sites):
