@@ -1,6 +1,7 @@
 """Numbers of a tool's run, in a file that the textfile collector of Prometheus' node_exporter reads.
 
-A run that succeeds replaces the file whole. One that fails leaves it, so the time of the last success grows old.
+A run that succeeds replaces the file whole. One that fails leaves it, so the time of the last success grows old. What is counted
+goes on from what the file had.
 """
 import collections
 import contextlib
@@ -15,51 +16,60 @@ import tempfile
 import time
 
 import cadf_site
+from cadf_index_file import planned
 from cadf_keys import Files, at_once
 from cadf_logs import atoms
 from cadf_toolkit import (DIFFERS, DONE, FAILED, MEMORY, REFUSED, Fault, cadf, name_shown, naming, new_file, opened, started,
                           temporary_folder, tool)
 
 HELP = {
-    "facts_taken": "Facts that the last run took into the site; of cadf-spool, those that it held before among them.",
+    "facts_taken_total": "Facts that were taken into the site; of cadf-spool, those that it held before among them.",
     "facts_lacked": "Facts of the other site that the site lacks.",
     "facts_lacked_by_peer": "Facts that the peer lacked when the last run compared.",
     "files": "Files of the last run, by what became of them.",
     "set_aside_files": "Files that wait in set-aside/ for a person.",
     "set_aside_bytes": "Bytes of these files and of the reasons beside them.",
-    "open_conflicts": "Open conflicts of the windows that the last run changed; with --conflicts, of the site.",
+    "set_aside_oldest_timestamp_seconds": "Since when the first of them waits.",
+    "open_conflicts": "Open conflicts of the site.",
     "largest_window_bytes": "Bytes of the site's largest window.",
     "oldest_scrub_timestamp_seconds": "When of all whole files the one was read that was not read for longest.",
     "damaged_windows": "Windows of which a file is damaged or gone.",
     "doubtful_windows": "Windows that were repaired by other facts than were lost, until a person removes what was kept.",
     "last_success_timestamp_seconds": "When the last run that succeeded ended.",
 }
-BEGINNING = b"# HELP cadf_"
-COUNTED = re.compile(r"open (\d+), settled \d+$")  # what cadf-conflicts says at its end
+BEGINNING, TOTAL = b"# HELP cadf_", "_total"
+NUMBER = re.compile(r"(?m)^(cadf_\w+\{.*\}) (\d{1,18})$")
+COUNTED = re.compile(r"(?m): open (\d+), settled \d+(?:, unknown \d+)?$")  # what cadf-conflicts says at its end
+LARGEST_READ = 2 ** 20  # bytes of a file that is replaced
 
 
 def escaped(value):
     return value.replace("\\", "\\\\").replace('"', '\\"').replace("\n", "\\n")
 
 
-def text_of(labels, values):
-    """The text of values, each (name, further labels, number), with the time of this success; the first counts of equal ones."""
+def text_of(labels, values, before):
+    """The text of values, each (name, further labels, number), with the time of this success; the first counts of equal ones.
+
+    What is counted is added to what was there before.
+    """
     lines = {}
     for name, more, number in [*values, ("last_success_timestamp_seconds", {}, int(time.time()))]:
-        lines.setdefault("# HELP cadf_%s %s" % (name, HELP[name]), "\n# TYPE cadf_%s gauge\n" % name)
-        shown = ",".join('%s="%s"' % (label, escaped(value)) for label, value in {**labels, **more}.items())
-        lines.setdefault("cadf_%s{%s}" % (name, shown), " %d\n" % number)
+        is_total = name.endswith(TOTAL)
+        lines.setdefault("# HELP cadf_%s %s" % (name, HELP[name]), "\n# TYPE cadf_%s %s\n" % (name, "counter" if is_total else "gauge"))
+        shown = "cadf_%s{%s}" % (name, ",".join('%s="%s"' % (label, escaped(value)) for label, value in {**labels, **more}.items()))
+        lines.setdefault(shown, " %d\n" % (number + is_total * before.get(shown, 0)))
     return "".join(map("".join, lines.items()))
 
 
-def check_replaced(path):
-    """Raises that what is to be replaced is no file of numbers: it may be a site, or a device."""
+def replaced(path):
+    """The numbers of a file that is to be replaced, by names with labels. Raises that it is no file of numbers: it may be a site, or a device."""
     with contextlib.suppress(FileNotFoundError):
         if stat.S_ISREG(os.lstat(path).st_mode):
             with open(path, "rb") as file:
                 if file.read(len(BEGINNING)) in (b"", BEGINNING):
-                    return
+                    return {name: int(number) for name, number in NUMBER.findall(file.read(LARGEST_READ).decode("utf-8", "replace"))}
         raise Fault("%s: it has no numbers of a run, so it is not replaced: name another file by --metrics" % name_shown(path))
+    return {}
 
 
 def write(path, labels, values):
@@ -68,10 +78,10 @@ def write(path, labels, values):
     FILE.new is written and renamed. What a run that was killed left there goes first.
     """
     working = path + ".new"
-    check_replaced(path)
+    before = replaced(path)
     with naming(path), new_file(working, []) as file:
         with open(file, "w", encoding="utf-8", closefd=False) as output:
-            output.write(text_of({"tool": tool(), **labels}, values))
+            output.write(text_of({"tool": tool(), **labels}, values, before))
         os.fchmod(file, 0o644)
         os.rename(working, path)
 
@@ -87,17 +97,24 @@ def largest_window(name):
     return max(sizes.values(), default=0)
 
 
-def open_conflicts(name, parts=None):
-    """How many conflicts are open in a site; in a folder, if parts are given, of these windows and of what is of no time."""
+def of_site(name):
+    """The numbers of a site."""
+    return [("open_conflicts", {}, open_conflicts(name)), ("largest_window_bytes", {}, largest_window(name))]
+
+
+def open_conflicts(name):
+    """How many conflicts are open in a site. Of a folder those windows are read alone of which the index says that they may have some."""
+    if not os.path.lexists(name):
+        return 0
     if not cadf_site.is_folder(name):
         with opened([name]) as inputs:
             return shown_conflicts(inputs)
-    if parts is None:
-        return listed_conflicts(name)
-    if not parts:
-        return 0
-    parts = {cadf_site.SHARED, *parts}
-    with cadf_site.Folder(name) as site, temporary_folder() as folder:
+    with cadf_site.Folder(name, {}) as site, temporary_folder() as folder:
+        if site.index() is None:
+            return 0
+        parts = planned(site, lambda index, _: {cadf_site.SHARED}.union(*index.several().values()))
+        if parts is None:
+            return listed_conflicts(name)
         if sum(len(site.site().digests(part)) for part in parts) <= at_once():
             with cadf_site.opened_parts(site, parts) as (_, inputs):
                 return shown_conflicts(list(inputs.values()))
@@ -109,6 +126,8 @@ def open_conflicts(name, parts=None):
 
 def shown_conflicts(inputs):
     """How many open keys the union of some inputs has. Of their values no text is made that `show` would write again and again."""
+    if not inputs:
+        return 0
     with tempfile.TemporaryFile() as file:
         cadf(["join"], inputs, file.fileno())
         file.seek(0)
@@ -132,6 +151,6 @@ def listed_conflicts(name):
     if child.returncode == DONE and not said:
         return 0  # it says nothing of a site without conflicts
     counted = COUNTED.search(said)
-    if child.returncode not in (DONE, DIFFERS) or not counted:
+    if child.returncode not in (DONE, DIFFERS, REFUSED) or not counted:  # refused also if a window is damaged
         raise Fault("%s: cadf-conflicts: %s" % (name_shown(name), said), child.returncode if child.returncode in (REFUSED, MEMORY) else FAILED)
     return int(counted[1])

@@ -254,7 +254,7 @@ def test_conflicts_and_metrics(sites):
     answer = sites.sync("--conflicts", "--metrics=m.prom", "here.cadf", "there.cadf")
     assert answer.status == 5 and answer.output.endswith(b"; 1 open conflicts\n"), answer
     assert numbers(sites.path / "m.prom", '{tool="cadf-sync",site="here.cadf",peer="there.cadf"}') == {
-        "facts_taken": 2, "facts_lacked_by_peer": 5, "open_conflicts": 1, "largest_window_bytes": len(file_of("g", facts(1, 2) | other))}
+        "facts_taken_total": 2, "facts_lacked_by_peer": 5, "open_conflicts": 1, "largest_window_bytes": len(file_of("g", facts(1, 2) | other))}
     text = (sites.path / "m.prom").read_text()
     assert sites.sync("--metrics=m.prom", "here.cadf", "none/none.cadf").status != 0
     assert (sites.path / "m.prom").read_text() == text and sorted(os.listdir(sites.path)) == sorted(
@@ -1171,14 +1171,20 @@ def test_a_window_larger_than_a_file_may_be(folders, way, there):
 
 
 def test_metrics_of_folders(folders):
-    """Of two windows that change one has an open conflict and one a settled one; an open one of an older window doesn't count."""
+    """All open conflicts of the site count, also those of a window that no run has changed; and facts go on being counted from run to run."""
     folders.put("here/", facts(1, 2, 3) | failed(1))
     folders.put("there/", facts(2, 3) | failed(2, 3) | ruling(3))
     largest = len(file_of("g", facts(2) - facts())) + len(file_of("g", failed(2)))  # two files of one window
-    for here, there, conflicts in ((5, 4, 1), (0, 0, 0)):
+    for there in (4, 0):
         folders.equal("--metrics=m.prom", "here/", "there/")
         assert numbers(folders.path / "m.prom", '{tool="cadf-sync",site="here/",peer="there/"}') == {
-            "facts_taken": here, "facts_lacked_by_peer": there, "open_conflicts": conflicts, "largest_window_bytes": largest}
+            "facts_taken_total": 5, "facts_lacked_by_peer": there, "open_conflicts": 2, "largest_window_bytes": largest}
+    folders.put("more.cadf", facts(4))
+    folders.takes("there/", ["more.cadf"])
+    folders.equal("--metrics=m.prom", "here/", "there/")
+    text = (folders.path / "m.prom").read_text()
+    assert "# TYPE cadf_facts_taken_total counter\n" in text and "# TYPE cadf_open_conflicts gauge\n" in text
+    assert numbers(folders.path / "m.prom", '{tool="cadf-sync",site="here/",peer="there/"}')["facts_taken_total"] == 5 + len(facts(4) - facts())
 
 
 @pytest.mark.parametrize("more, status, count", [(set(), 0, 0), (failed(1), 5, 1), (failed(1) | ruling(1), 0, 0)], ids=["none", "open", "settled"])
@@ -1206,7 +1212,7 @@ def test_metrics_of_a_spool(folders):
     words = ["--by=day", "--log=g", "--unchanged=0", "--metrics=m.prom", "here/", "spool"]
     assert folders.runs("cadf-spool", *words).status == 1
     assert numbers(folders.path / "m.prom", '{tool="cadf-spool",site="here/"}') == {
-        "facts_taken": 7, "open_conflicts": 1, 'files{,became="taken"}': 1, 'files{,became="set aside"}': 1, 'files{,became="waiting"}': 0,
+        "facts_taken_total": 7, "open_conflicts": 1, "set_aside_oldest_timestamp_seconds": int((folders.path / "spool" / "set-aside" / "bad.cadf").stat().st_mtime), 'files{,became="taken"}': 1, 'files{,became="set aside"}': 1, 'files{,became="waiting"}': 0,
         "set_aside_files": 1, "set_aside_bytes": len(file_of("g", facts(3))[:-9]) + len((folders.path / "spool" / "set-aside" / "bad.cadf.reason").read_bytes()),
         "largest_window_bytes": len(file_of("g", facts(2) - facts() | failed(2)))}
 

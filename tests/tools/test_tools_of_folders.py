@@ -238,17 +238,18 @@ def test_a_report_of_more_windows_than_files_may_be_open(sites):
 MEASURED = """import sys
 sys.path.insert(0, sys.argv[1])
 import cadf_metrics
-print(cadf_metrics.largest_window(sys.argv[2]), cadf_metrics.open_conflicts(sys.argv[2], sys.argv[3:]))
+print(cadf_metrics.largest_window(sys.argv[2]), cadf_metrics.open_conflicts(sys.argv[2]))
 """
 
 
-@pytest.mark.parametrize("parts, count", [([], 0), (["2024-02-29"], 0), (["2024-02-29", "2024-03-01"], 1)])
-def test_metrics_have_the_files_of_one_window_open_at_a_time(sites, parts, count):
-    """An event of which each of two windows has a body counts if both have changed."""
-    sites.north.takes(told_on_two_days(0), told_on_two_days(2), contents(2, 5, 8, name="n"))
+@pytest.mark.parametrize("second, count", [(0, 0), (2, 1)])
+def test_metrics_have_the_files_of_one_window_open_at_a_time(sites, second, count):
+    """All open conflicts count, whichever windows have changed, by the index and without; also of an event of which each of two windows has a body."""
+    sites.north.takes(told_on_two_days(0), told_on_two_days(second), contents(2, 5, 8, name="n"))
     wanted = max(path.stat().st_size for path in sites.north.folder.glob("2024-03-01.*.cadf"))
-    words = ["-c", MEASURED, os.path.join(TOP, "share", "cadf"), str(sites.north.folder), *parts]
-    assert ended(sys.executable, words, env=sites.environment, **FEW) == (0, b"%d %d\n" % (wanted, count), b"")
+    words = ["-c", MEASURED, os.path.join(TOP, "share", "cadf"), str(sites.north.folder)]
+    for _ in range(2):
+        assert ended(sys.executable, words, env=sites.environment, **FEW) == (0, b"%d %d\n" % (wanted, count), b"")
 
 
 @pytest.mark.parametrize("words, call", [(["conflicts", "--values"], "join"), (["events"], "show"), (["report"], "join")])
