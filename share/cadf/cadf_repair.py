@@ -1,7 +1,8 @@
 """Repairing a site that is a folder: what is damaged or gone of it is fetched from another site.
 
 First the file of the same digits is asked for, else all facts of its window. A window is repaired if each of its files then is the one that
-`site` names: nothing else has changed. Else what came is joined, and the window is in doubt: facts that this site alone had may be gone.
+`site` names: nothing else has changed; or if all its facts then have the root that an earlier seal has. Else what came is joined, and the
+window is in doubt: facts that this site alone had may be gone.
 """
 import contextlib
 import os
@@ -9,9 +10,10 @@ import time
 
 import cadf_state
 from cadf_link import CAME_SO, Store, fault_of
-from cadf_site import check_window, file_name, judged, taking
+from cadf_seals import SiteSeal, read, sealed
+from cadf_site import check_window, file_name, judged, other_unit, taking
 from cadf_state import DAMAGED, kept_name
-from cadf_toolkit import DIFFERS, DONE, REFUSED, Fault, last_digest, open_descriptor, say
+from cadf_toolkit import DIFFERS, DONE, REFUSED, Fault, last_digest, open_descriptor, opened, other_log, say
 from cadf_windows import made
 
 
@@ -20,10 +22,13 @@ class Unfit(Fault):
 
 
 class Repair:
-    """What is to be repaired of a folder: its files that are damaged or gone, with why, and those of windows in doubt, by part."""
+    """What is to be repaired of a folder: its files that are damaged or gone, with why, and those of windows in doubt, by part.
 
-    def __init__(self, folder):
-        self.folder = folder
+    `seal` names an earlier seal of it, or is None.
+    """
+
+    def __init__(self, folder, seal):
+        self.folder, self.roots = folder, {} if seal is None else roots_of(seal, folder.site())
         self.index, self.faults = judged(folder)
         known = cadf_state.times(cadf_state.lines_of(folder), DAMAGED)
         doubtful = [entry for entry in known if not self.index.has(file_name(*entry)) and cadf_state.is_in_doubt(folder, entry)]
@@ -52,7 +57,9 @@ class Repair:
         lost = [digest for digest in digests if digest not in whole]
         if whole or other:
             with self.far.link.busy():
-                put(self.folder.name, part, whole, lost if other else [], other if lost else None)
+                is_known = bool(lost and other) and self.is_sealed(part, digests, [*whole.values(), other])
+                put(self.folder.name, part, whole, lost if other else [], other if lost else None, is_known)
+                lost = [] if is_known else lost
         if lost and not other:
             say("%s: not repaired: the other site has nothing of it: try another one, or restore it as the guide says under `A damaged site`" % part)
             return REFUSED if any((part, digest) in self.faults for digest in lost) else DIFFERS
@@ -61,6 +68,14 @@ class Repair:
         if not lost:
             say("%s: repaired" % part)
         return DIFFERS if lost else DONE
+
+    def is_sealed(self, part, digests, came):
+        """Whether a part has the root that the seal has, once these files came in the place of those that are wanted."""
+        with contextlib.ExitStack() as files:
+            own = [self.folder.input(file_name(part, digest)) for digest in self.index.digests(part) if digest not in digests]
+            for each in own:
+                files.enter_context(each.file)
+            return part in self.roots and sealed([*own, *came]) == self.roots[part]
 
     def fetched(self, part, kind, content=b""):
         """What the other end has of a part, as an input that was judged; None if it has nothing."""
@@ -84,10 +99,20 @@ class Repair:
         return found
 
 
-def put(name, part, whole, lost, other):
+def roots_of(name, index):
+    """The number and the root of the facts of each part, by the seal of that name, which has to be of the folder's log and unit."""
+    with opened([name], pipes=True) as (input,):
+        seal = read(input, SiteSeal)
+    if (seal.log, seal.unit) != (index.log, index.unit):
+        raise Fault("%s: %s" % (input.name, other_log(seal.name()) if seal.log != index.log else other_unit(seal.unit, index.unit)), REFUSED)
+    return seal.parts
+
+
+def put(name, part, whole, lost, other, is_known):
     """Puts these files in the place of damaged ones of the folder of that name, by their digits, and other facts in the place of those that are lost.
 
-    What was damaged is kept beside. A call that is killed has put a file whole or not at all; the others are put by one new `site`.
+    What was damaged is kept beside. The part is in doubt then, unless it is known that no fact lacks. A call that is killed has put a file
+    whole or not at all; the others are put by one new `site`.
     """
     with taking(name, None, None, None) as found:
         named = [digest for digest in lost if found.index.has(file_name(part, digest))]
@@ -106,7 +131,7 @@ def put(name, part, whole, lost, other):
             found.keep(part, last_digest(file.file))  # unless they are held
         found.put_changed()
         with cadf_state.changing(found.folder) as times:
-            for digest in whole:
+            for digest in [*whole, *(lost if is_known else [])]:
                 times.pop((DAMAGED, part, digest), None)
 
 

@@ -163,6 +163,36 @@ def test_several_files_of_a_window(sites):
     assert sites.run("which", "north/") == (0, "", []) and len(list(sites.north.folder.glob(".damaged-*"))) == 2
 
 
+def test_a_seal_tells_that_no_fact_lacks(sites):
+    """All facts of the window come, in another file than was lost. Without the seal nobody knows that these are all; with a fact more they aren't what was sealed."""
+    for keys in ((0, 2), (3,)):
+        sites.north.takes(contents(*keys))
+    (sites.path / "seal").write_text(sites.run("seal", "north/")[1])
+    sites.south.takes(contents(0, 3))
+    path = next(path for path in sites.north.folder.glob(FIRST + ".*") if b'"e3"' in path.read_bytes())
+    before = sites.north.listed()
+    for words, more, status in (([], [], 5), (["--seal", "seal"], [contents(6)], 5), (["--seal", "seal"], [], 0)):
+        for name in os.listdir(sites.north.folder):
+            os.unlink(sites.north.folder / name)
+        for name, data in before.items():
+            (sites.north.folder / name).write_bytes(data)
+        changed(path)
+        if more:
+            sites.third = Site(sites.path, name="third")
+            sites.third.takes(contents(0, 3), *more)
+        answer = sites.run("sync", "--repair", *words, "north/", "third/" if more else "south/")
+        assert answer[0] == status and sites.north.atoms() == atoms_of(contents(0, 2), contents(3), *more)
+        assert sites.run("which", "--scrub", "north/")[0] == status and path.with_name(".damaged-" + path.name).exists()
+
+
+def test_a_seal_of_another_site(sites):
+    sites.north.takes(contents(0))
+    sites.south.takes(contents(0), by=("--by", "hour"))
+    (sites.path / "seal").write_text(sites.run("seal", "south/")[1])
+    assert sites.run("sync", "--repair", "--seal", "seal", "north/", "south/")[2] == ["cadf-sync: seal: other unit: its windows are one hour each, and not one day"]
+    assert sites.run("sync", "--seal", "seal", "north/", "south/")[2][-1].endswith("--seal goes with --repair")
+
+
 def test_a_site_that_is_a_file(sites):
     """It has no windows of its own to be repaired, but may be what repairs."""
     sites.north.takes(contents(0, 2))
@@ -273,7 +303,7 @@ def test_what_is_asked_for_is_a_file_of_the_site(sites):
     assert answer.status == 0 and answer.output.endswith(message(b"answer", items((FIRST.encode(), *NONE))))
 
 
-@pytest.mark.parametrize("words, said", [(["--repair", "--pull", "a/", "b/"], "not allowed with argument"), (["--repair", "--json", "a/", "b/"], "--repair goes with --rsh and with limits alone")])
+@pytest.mark.parametrize("words, said", [(["--repair", "--pull", "a/", "b/"], "not allowed with argument"), (["--repair", "--json", "a/", "b/"], "--repair goes with --rsh, --seal and with limits alone")])
 def test_words(sites, words, said):
     status, output, lines = sites.run("sync", *words)
     assert (status, output) == (2, "") and said in lines[-1]
@@ -282,6 +312,7 @@ def test_words(sites, words, said):
 @pytest.mark.parametrize("check, right, wrong", [
     (test_a_window_in_doubt, "times.setdefault((DAMAGED, part, digest), int(time.time()))", "pass"),
     (test_a_person_ends_the_doubt, "        if is_marked:", "        if False:"),
+    (test_a_seal_tells_that_no_fact_lacks, "sealed([*own, *came]) == self.roots[part]", "True"),
     (test_all_facts_of_a_window_that_make_its_file, "if other and last_digest(other.file) in digests:", "if False:"),
 ])
 def test_a_wrong_version_is_caught(tmp_path, check, right, wrong):
