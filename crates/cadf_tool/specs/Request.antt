@@ -88,14 +88,14 @@ pub record Task : Type 1 where
   pub work : Read → Result Made ToolFault → Type 0
   -- what is written
   pub tell : Made → Text
-  -- the whole text is in memory before it is written
+  -- nothing is written if memory runs out
   pub is_whole : Bool
 
 -- of inputs, in a list
 abbrev pub of_all : {M : Type 0} → (List Loaded → Result M ToolFault) → (M → Text) → Task
 of_all {M} work tell = record { Read = List Loaded; sources = inputs_from 1; Made = M; work = IsValueOf work; tell = tell; is_whole = false }
 
--- the same, if the whole text is in memory before it is written
+-- the same, if nothing is written when memory runs out
 abbrev pub whole : Task → Task
 whole t = record { Read = t.Read; sources = t.sources; Made = t.Made; work = t.work; tell = t.tell; is_whole = true }
 
@@ -151,7 +151,7 @@ task (ask.Rehearse log sites) = record {
   tell = sites_text;
   is_whole = true;
 }
-task (ask.Show conflicts) = of_all (of_union replica_model_of) (shown_text conflicts)
+task (ask.Show conflicts) = whole (of_all (of_union replica_model_of) (shown_text conflicts))
 task ask.Check = whole (of_all (of_union replica_model_of) checked_text)
 
 -- THE RUN

@@ -105,7 +105,7 @@ pub fn run<R: Source, W: Sink>(
 ) -> Result<(), ToolFault>
     requires { accepts request.now (length sources.old) ≡ true }
     ensures run { IsRequestRun request.now R.Source sources.old sources.new W.Sink output.old output.new result }
-    // Of some requests the whole text is in memory before it is written.
+    // For some requests all memory is allocated before a byte is written.
     ensures memory { (task request.now).is_whole ≡ true → result ≡ Err ToolFault.Memory → output.new ≡ output.old }
 {
     match request {
