@@ -106,7 +106,8 @@ int cadf_seal(const struct cadf_bytes *input, uint8_t *output, size_t room, size
 int cadf_prove(const struct cadf_bytes *facts, const struct cadf_bytes *inputs, size_t count,
                uint8_t *output, size_t room, size_t *length);
 
-/* A line for each fact, by a seal and a proof: that it is there; with `absent`, that it isn't. Refused unless all are so. */
+/* A line for each fact, by a seal and a proof: that it is there; with `absent`, that it isn't. Refused unless all are so,
+ * and if there is no fact. */
 int cadf_verify(bool absent, const struct cadf_bytes *seal, const struct cadf_bytes *facts, const struct cadf_bytes *proof,
                 uint8_t *output, size_t room, size_t *length);
 

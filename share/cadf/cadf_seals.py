@@ -16,7 +16,7 @@ import subprocess
 
 from cadf_link import Store
 from cadf_site import LARGEST, PART, UNITS, Folder, check_window, made_of_parts, order, other_unit, split, without_facts
-from cadf_toolkit import REFUSED, Fault, Progress, Refusal, another_program, as_input, cadf, log_name, log_of, other_log, with_advice, with_digest
+from cadf_toolkit import REFUSED, Fault, Progress, Refusal, another_program, as_input, cadf, log_name, other_log, with_advice, with_digest
 from cadf_windows import is_part
 
 UNIT = re.compile(("B (%s)" % "|".join(UNITS)).encode())
@@ -260,7 +260,7 @@ def verify(words, inputs):
     try:
         shown = cadf(["verify", *words], inputs, subprocess.PIPE)
         if not shown.startswith((b"present ", b"absent ")):
-            log_of(inputs[1:2])  # of no facts nothing is shown, and another program's answer isn't taken for that
+            raise another_program("answer of `cadf verify`")
         return shown
     except Refusal as fault:
         place = 2 if fault.said.startswith("fact ") else fault.place
@@ -275,6 +275,8 @@ def verified(words, seal, facts, proof):
     own, found = read(seal, SiteSeal), read(proof, SiteProof)
     asked = by_part(facts, own.name(), own.unit)
     check_alike(own, found, proof.name)
+    if not asked:
+        raise Fault("%s: no facts" % facts.name, REFUSED)
     check_parts(asked, found, proof.name)
     return b"".join(part_verified(words, own.seal(part), item, found.parts[part], [each.name for each in (seal, facts, proof)])
                     for part, item in asked.items())

@@ -45,7 +45,7 @@ def called(case, pieces):
     name, own = engine(call)
     words = [next(pieces), "never", 0, *own, *(word for one in contents for word in reader(one, next(pieces)))]
     if wanted.status == 0:
-        return [name, *words], ["ok", *filter(None, [wanted.output])]  # of no facts there are no lines, and no field
+        return [name, *words], ["ok", wanted.output]
     return ["fault", name, *words], [wanted.status, wanted.error.decode()[len("cadf: "):-1]]
 
 

@@ -178,6 +178,8 @@ def what_is_shown(leaf, proof):
 
 def verified(seal, facts, proof, wanted):
     """The lines that verify writes of the facts, each of which has to be `present` or `absent`, as wanted."""
+    if not facts:
+        raise Fault("input 2: no facts")
     if proof.count != seal.count:
         raise Fault("input 3: other count")
     if proof.root() != seal.root:

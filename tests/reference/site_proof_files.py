@@ -68,6 +68,8 @@ def site_verified(seal, facts, proof, wanted):
         raise Fault("other log")
     if proof.unit != seal.unit:
         raise Fault("other unit")
+    if not facts:
+        raise Fault("no facts")
     asked = parts_of(facts, seal.unit)
     for name in in_order({*asked, *proof.parts}):
         if name not in proof.parts:

@@ -6,7 +6,7 @@ what differs from the one before.
 """
 import re
 
-from tests.tables import rows as worked, sketch_rows as sketched, split_rows, worked_files as made
+from tests.tables import rows as worked, sketch_rows as sketched, split_rows, verify_rows, worked_files as made
 from tests.tables.document_rows import BOTH, NORTH
 from tests.tables.exchange_rows import OTHER_LOG
 from tests.tables.seal_rows import proof, seal
@@ -327,7 +327,11 @@ IN_ORDER = [
     ("verify", [SEALED_NONE, EVENT, ONE_PROVED], ["Unverified", "OtherCount"]),
     ("verify", [ONE_SEALED, EVENT, reader(proof([digits(C2)], [digits(C2)]))], ["Unverified", "OtherRoot"]),
     ("verify", [ONE_SEALED, EVENT, reader(proof([], [digits(C1)]))], ["Unverified", "NotShown", 1]),
-    ("verify", [ONE_SEALED, GOOD, ONE_PROVED], ["Unverified", "NotNeeded", 4]),
+    ("verify", [reader(seal(digits(C1), digits(C2))), EVENT, reader(proof([digits(C1), digits(C2)], [digits(C1), digits(C2)]))],
+     ["Unverified", "NotNeeded", verify_rows.LINE_OF_SECOND]),
+    ("verify", [ONE_SEALED, GOOD, OTHER_PROVED], ["OtherLog", 3]),
+    ("verify", [SEALED_NONE, GOOD, ONE_PROVED], ["NoFacts", 2]),
+    ("verify --absent", [ONE_SEALED, reader(made.NOTHING_TREE), ONE_PROVED], ["NoFacts", 2]),
     ("verify", [SEALED_NONE, EVENT, reader(proof([], []))], ["Unverified", "Absent", 1]),
     ("verify --absent", [ONE_SEALED, EVENT, ONE_PROVED], ["Unverified", "Present", 1]),
     ("verify", [ONE_SEALED, EVENT, ONE_PROVED], ["WriteFault"]),

@@ -106,7 +106,7 @@ FULL = [
 ANOTHER = [
     ("which good.cadf", "answer of `cadf check`"), ("conflicts open.cadf", "replica file"), ("conflicts --rule choices open.cadf", "replica file"),
     ("conflicts open.cadf good.cadf", "replica file"), ("agree good.cadf many.json", "sketch"), ("report good.cadf", "answer of `cadf --version`"),
-    ("seal good.cadf", "seal"), ("seal --prove d.json good.cadf", "proof"), ("seal --verify seal d.json proof", "answer of `cadf check`"),
+    ("seal good.cadf", "seal"), ("seal --prove d.json good.cadf", "proof"), ("seal --verify seal d.json proof", "answer of `cadf verify`"),
     ("events good.cadf", "log"), ("events --bulk i good.cadf", "answer of `cadf check`"),
     ("sync many.json SITE", "replica file"), ("sync open.cadf SITE", "sketch"), ("sync --conflicts good.cadf SITE", "replica file"),
 ]

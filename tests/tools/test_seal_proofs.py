@@ -107,7 +107,8 @@ def test_facts_of_each_kind_of_file(proofs):
 def test_no_facts(proofs):
     nothing = {"id": "g", "events": []}
     proof = proofs.proves(nothing)
-    assert proof == with_digest(PROOF_HEAD.encode()) and proofs.says(nothing, proof) == (0, b"", [])
+    assert proof == with_digest(PROOF_HEAD.encode()) and proofs.says(nothing, proof) == (1, b"", ["cadf-seal: facts: no facts"])
+    assert proofs.says(nothing, proof, "--absent") == (1, b"", ["cadf-seal: facts: no facts"])
 
 
 def test_a_site_that_is_a_file(proofs):

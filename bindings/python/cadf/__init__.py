@@ -273,8 +273,8 @@ def prove(facts: Input, inputs: Iterable[Input]) -> bytes:
 def verify(seal: Input, facts: Input, proof: Input, absent: bool = False) -> bytes:
     """Returns a line for each fact: by the proof it is among what was sealed; with `absent` it isn't.
 
-    Refused: one of them is refused or of another log, a fact isn't as asked, or the proof doesn't show it, with its number
-    in `place`. OutOfMemory.
+    Refused: one of them is refused or of another log, there is no fact, a fact isn't as asked, or the proof doesn't show
+    it, with its number in `place`. OutOfMemory.
     """
     texts = _of(seal), _of(facts), _of(proof)
     return _call("verify", _room(texts[1]), bool(absent), *map(_given, texts))

@@ -5,7 +5,7 @@ use Rattle.cadf_arguments.specs.declared.fault.ArgumentFault.{ArgumentFault}
 use Rattle.cadf_arguments.specs.declared.fault.ArgumentFault.TheVariants.{LogName, Sites, Letter, Key, Place, Cells, Salt, Unit as NoUnit, Memory as NoMemory}
 use Rattle.cadf_arguments.specs.Arguments.{argument_status_of, argument_text_of}
 use Rattle.cadf_tool.specs.declared.fault.ToolFault.{ToolFault}
-use Rattle.cadf_tool.specs.declared.fault.ToolFault.TheVariants.{Input, NoLog, OtherLog, TooFewCells, Script, Rehearse, NoValue, Unverified}
+use Rattle.cadf_tool.specs.declared.fault.ToolFault.TheVariants.{Input, NoLog, OtherLog, NoFacts, TooFewCells, Script, Rehearse, NoValue, Unverified}
 use Rattle.cadf_tool.specs.declared.fault.ToolFault.TheVariants.{ReadFault, WriteFault, Memory}
 use Rattle.cadf_tool.specs.declared.request.Request.{Request}
 use Rattle.cadf_tool.specs.Faults.{status_of}
@@ -19,6 +19,7 @@ pub one_or_four : (fault : ToolFault) → is_of_memory fault ≡ true → (statu
 one_or_four (Input n f) h = inl refl
 one_or_four NoLog h = inl refl
 one_or_four (OtherLog n) h = inl refl
+one_or_four (NoFacts n) h = inl refl
 one_or_four (TooFewCells n cells) h = inl refl
 one_or_four (Script line) h = inl refl
 one_or_four (Rehearse f) h = inl refl

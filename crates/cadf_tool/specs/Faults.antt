@@ -7,7 +7,7 @@ use Rattle.cadf_seal.specs.declared.verify.VerifyFault.TheVariants as verify
 use Rattle.cadf_tool.specs.declared.input.LoadFault.{LoadFault}
 use Rattle.cadf_tool.specs.declared.input.LoadFault.TheVariants.{File, TooLarge, ReadFault, Json, Document, Memory}
 use Rattle.cadf_tool.specs.declared.fault.ToolFault.{ToolFault}
-use Rattle.cadf_tool.specs.declared.fault.ToolFault.TheVariants.{Input, NoLog, OtherLog, TooFewCells, Script, Rehearse, NoValue, Unverified}
+use Rattle.cadf_tool.specs.declared.fault.ToolFault.TheVariants.{Input, NoLog, OtherLog, NoFacts, TooFewCells, Script, Rehearse, NoValue, Unverified}
 use Rattle.cadf_tool.specs.declared.fault.ToolFault.TheVariants.{ReadFault as ReadFailed, WriteFault, Memory as OutOfMemory}
 
 -- `ReadFault` and `Memory` are the engine's own
@@ -35,6 +35,7 @@ abbrev pub status_of : ToolFault → ℕ
 status_of (Input n f) = 1
 status_of NoLog = 1
 status_of (OtherLog n) = 1
+status_of (NoFacts n) = 1
 status_of (TooFewCells n cells) = 1
 status_of (Script line) = 1
 status_of (Rehearse f) = 1

@@ -2,7 +2,8 @@
 --     sources_of seal facts proof        the outcome of reading the three inputs, in this order
 --     verdict_lines absent seal facts proof  a line for each fact, which is as asked, or why not
 --     verdict_of absent inputs           the same of the three inputs: a seal, the facts, and a proof
-use Rattle.std.specs.Prelude.{ℕ, Bool, List, Some, if◌then◌else◌, Result, Ok, Err}
+use Rattle.std.specs.Prelude.{ℕ, nat_eq, Bool, List, length, Some, if◌then◌else◌, Result, Ok, Err}
+use Rattle.cadf_join.specs.Sets.{rising}
 use Rattle.cadf_seal.specs.ProofFile.{ProofModel}
 use Rattle.cadf_seal.specs.SealFile.{SealModel}
 use Rattle.cadf_seal.specs.Verified.{verified}
@@ -10,7 +11,7 @@ use Rattle.cadf_seal.specs.declared.verify.VerifyFault.{VerifyFault}
 use Rattle.cadf_set.specs.Replica.{ReplicaModel}
 use Rattle.cadf_tool.specs.declared.input.Loaded.{Loaded}
 use Rattle.cadf_tool.specs.declared.fault.ToolFault.{ToolFault}
-use Rattle.cadf_tool.specs.declared.fault.ToolFault.TheVariants.{OtherLog}
+use Rattle.cadf_tool.specs.declared.fault.ToolFault.TheVariants.{OtherLog, NoFacts}
 use Rattle.cadf_tool.specs.Faults.{of_verify}
 use Rattle.cadf_tool.specs.Join.{is_other, facts_under, on_ok}
 use Rattle.cadf_tool.specs.Run.{Sources, SourceTransition, one, both, with_number, input_spec}
@@ -23,11 +24,13 @@ abbrev pub of_verified : Result (List ℕ) VerifyFault → Result (List ℕ) Too
 of_verified (Ok text) = Ok text
 of_verified (Err fault) = Err (of_verify fault)
 
--- the proof is input 3
+-- the facts are input 2, and the proof is input 3
 abbrev pub verdict_lines : Bool → SealModel → ReplicaModel → ProofModel → Result (List ℕ) ToolFault
 verdict_lines absent seal facts proof =
-    if is_other seal.log (Some proof.log) then Err (OtherLog 3) else of_verified (verified seal proof facts.atoms absent)
+    if is_other seal.log (Some proof.log) then Err (OtherLog 3)
+    else if nat_eq (length (rising facts.atoms)) 0 then Err (NoFacts 2)
+    else of_verified (verified seal proof facts.atoms absent)
 
--- THE VERDICT: the facts, input 2, are taken under the log of the seal
+-- THE VERDICT: the facts are taken under the log of the seal
 abbrev pub verdict_of : Bool → SealModel × (Loaded × ProofModel) → Result (List ℕ) ToolFault
 verdict_of absent inputs = on_ok (facts_under 2 inputs.0.log inputs.1.0) (λ f. verdict_lines absent inputs.0 f inputs.1.1)

@@ -15,8 +15,8 @@ use cadf_seal::{FactLines, Proof, Seal, VerifyFault, verified};
 use cadf_set::Replica;
 use std::alloc::Global;
 
-/// Makes the lines of facts that are taken under the log of the seal. `OtherLog`: the proof names another log.
-/// `Unverified`: the proof is refused, or a fact isn't as asked. `Memory` if an allocation fails.
+/// Makes the lines of facts that are taken under the log of the seal. `OtherLog`: the proof names another log. `NoFacts`:
+/// there are none. `Unverified`: the proof is refused, or a fact isn't as asked. `Memory` if an allocation fails.
 fn lines_of(
     alloc: Global,
     absent: bool,
@@ -29,6 +29,9 @@ fn lines_of(
     if proof.log().as_str() != seal.log().as_str() {
         return Err(ToolFault::OtherLog(3));
     }
+    if facts.atom_count() == 0 {
+        return Err(ToolFault::NoFacts(2));
+    }
     match verified(alloc, seal, facts, proof, absent) {
         Ok(lines) => Ok(lines),
         Err(VerifyFault::Memory) => Err(ToolFault::Memory),
@@ -37,8 +40,8 @@ fn lines_of(
 }
 
 /// Takes the facts under the log of the seal, and makes their lines, if the proof was read. `OtherLog`: the facts name
-/// another log, or the proof does. `Unverified`: the proof is refused, or a fact isn't as asked. `Memory` if an
-/// allocation fails.
+/// another log, or the proof does. `NoFacts`: there are none. `Unverified`: the proof is refused, or a fact isn't as asked.
+/// `Memory` if an allocation fails.
 fn verdict(
     alloc: Global,
     absent: bool,
