@@ -9,7 +9,8 @@
  *                                 the text says which
  *     CADF_OUT_OF_MEMORY (4)      an allocation failed; the text is `out of memory`
  *
- * `*length` is the length of the text. If it is above `room`, the buffer has the first `room` bytes of it, and nothing
+ * `*length` is the length of the text; for a status above 0 it is at most 128. That is proved, and so is which text it is
+ * for 0 and 2; for 1 and 4 that is tested. If it is above `room`, the buffer has the first `room` bytes of it, and nothing
  * beyond the buffer is touched: call again with so much room. No text ends with a zero byte. For a status above 0, what the
  * buffer holds after the text is undefined.
  *
