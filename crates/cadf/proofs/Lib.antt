@@ -1,1 +1,3 @@
+pub mod Accepted
+pub mod Opening
 pub mod Words

@@ -1,49 +1,102 @@
--- What a request of the command line asks of its files, and which files these are.
---     IsAsked q t    t is what the request q asks, with its words read
---     names_of q     the names of its files, in the order in which they are opened and read
-use Rattle.std.specs.Prelude.{◌≡◌, ⊤, ℕ, List, [], ◌∷◌, ◌++◌, map, length, Option, Some, None, option_map, encode_utf8}
+-- What a request of the command line asks of its files, or why a word of it is refused, and which files these are.
+--     asked_by q           what the request q asks, with its words read in this order; or the fault of the first that is refused
+--     IsRead expected r    r is that result, or memory ran out
+--     names_of q           the names of its files, in the order in which they are opened and read
+--     IsAccepted q         what q asks can be asked of so many files
+use Rattle.std.specs.Prelude.{◌≡◌, ◌⊎◌, ℕ, ◌^◌, nat_le, nat_lt, ◌&&◌, Bool, true, if◌then◌else◌, List, [], ◌∷◌, ◌++◌, map, length, slice_index, decimal}
+use Rattle.std.specs.Prelude.{Option, Some, None, ok_or, Result, Ok, Err, IfOk}
 use Rattle.std.specs.Borrow.{Bor}
-use Rattle.cadf_arguments.specs.Arguments.{unit_named}
+use Rattle.std.specs.Str.{bytes_eq}
+use Rattle.std.specs.Str.Parse.{digits_value}
+use Rattle.cadf_arguments.specs.Arguments.{is_place, is_site_count, unit_named}
+use Rattle.cadf_arguments.specs.declared.fault.ArgumentFault.{ArgumentFault}
+use Rattle.cadf_arguments.specs.declared.fault.ArgumentFault.TheVariants.{LogName, Sites, Letter, Key, Place, Cells, Salt, Unit as NoUnit, Memory}
+use Rattle.cadf_event.specs.Names.{is_name}
+use Rattle.cadf_line.specs.RulingTexts.{is_value_letter}
+use Rattle.cadf_sketch.specs.Layouts.{are_cells, is_salt}
+use Rattle.cadf_tool.specs.Request.{accepts}
 use Rattle.cadf_tool.specs.declared.request.Request.{Request as Asked}
 use Rattle.cadf_tool.specs.declared.request.Request.TheVariants as ask
 use Rattle.cadf_words.specs.declared.request.Request.{Request}
 use Rattle.cadf_words.specs.declared.request.Request.TheVariants.{Join, Split, Missing, MissingBy, Inventory, Sketch, MissingBySketch}
 use Rattle.cadf_words.specs.declared.request.Request.TheVariants.{Seal, Prove, Verify, Rule, Rehearse, Show, Check}
-use Rattle.cadf.specs.Given.{IsArgumentNumber}
 
 abbrev pub Word : Type 0
 Word = List ℕ
 
+-- ---- words that are no files
+
+-- a word that is read, or refused for a fault
+abbrev pub Reading : Type 0 → Type 0
+Reading A = Result A ArgumentFault
+
+infixl 10 ◌>>=◌
+abbrev pub ◌>>=◌ : {A B : Type 0} → Reading A → (A → Reading B) → Reading B
+(Ok a) >>= next = next a
+(Err fault) >>= next = Err fault
+
+abbrev pub accepted_if : {A : Type 0} → Bool → A → ArgumentFault → Reading A
+accepted_if accepts a fault = if accepts then Ok a else Err fault
+
+abbrev pub name_of : ArgumentFault → Word → Reading Word
+name_of fault word = accepted_if (is_name word) word fault
+
+-- the positive number of 64 bits that the word is, in decimal
+abbrev pub number_in : Word → Option ℕ
+number_in word =
+    let n = digits_value 10 word in if nat_le 1 n && nat_lt n (2 ^ 64) && bytes_eq word (decimal n) then Some n else None
+
+abbrev pub number_of : ArgumentFault → (ℕ → Bool) → Word → Reading ℕ
+number_of fault accepts word = ok_or (number_in word) fault >>= λ n. accepted_if (accepts n) n fault
+
+-- a letter is one byte
+abbrev pub letter_of : Word → Reading ℕ
+letter_of word = accepted_if (is_value_letter word) (slice_index word 0) Letter
+
+-- if the word is given
+abbrev pub if_given : {A : Type 0} → (Word → Reading A) → Option (Bor Word) → Reading (Option A)
+if_given read None = Ok None
+if_given read (Some word) = read word.now >>= λ a. Ok (Some a)
+
+abbrev pub IsRead : {A : Type 0} → Reading A → Reading A → Type 0
+IsRead expected (Ok a) = expected ≡ Ok a
+IsRead expected (Err fault) = (expected ≡ Err fault) ⊎ (fault ≡ Memory)
+
+-- ---- requests
+
+abbrev pub asked_by : Request → Reading Asked
+asked_by (Join log files) = do
+  name ← if_given (name_of LogName) log
+  Ok (ask.Join name)
+asked_by (Split by log files) = do
+  unit ← ok_or (unit_named by.now) NoUnit
+  name ← if_given (name_of LogName) log
+  Ok (ask.Split unit name)
+asked_by (Missing from to) = Ok (ask.Missing (length from.items))
+asked_by (MissingBy from inventory) = Ok ask.MissingBy
+asked_by (Inventory files) = Ok ask.Inventory
+asked_by (Sketch cells salt files) = do
+  count ← if_given (number_of Cells are_cells) cells
+  number ← if_given (number_of Salt is_salt) salt
+  Ok (ask.Sketch count number)
+asked_by (MissingBySketch from sketch) = Ok ask.MissingBySketch
+asked_by (Seal files) = Ok ask.Seal
+asked_by (Prove facts files) = Ok ask.Prove
+asked_by (Verify absent seal facts proof) = Ok (ask.Verify absent)
+asked_by (Rule letter key place files) = do
+  c ← letter_of letter.now
+  name ← name_of Key key.now
+  n ← number_of Place is_place place.now
+  Ok (ask.Rule c name n)
+asked_by (Rehearse log sites script) = do
+  name ← name_of LogName log.now
+  count ← number_of Sites is_site_count sites.now
+  Ok (ask.Rehearse name count)
+asked_by (Show conflicts files) = Ok (ask.Show conflicts)
+asked_by (Check files) = Ok ask.Check
+
 abbrev pub texts : List (Bor Word) → List Word
 texts = map (λ s. s.now)
-
--- a word that may be left out: it is none, or is read as this text or number
-abbrev pub given : Option (Bor Word) → Option Word
-given = option_map (λ s. s.now)
-
-abbrev pub IsGivenNumber : Option (Bor Word) → Option ℕ → Type 0
-IsGivenNumber None None = ⊤
-IsGivenNumber None (Some n) = ⊥
-IsGivenNumber (Some word) None = ⊥
-IsGivenNumber (Some word) (Some n) = IsArgumentNumber word.now n
-
-abbrev pub IsAsked : Request → Asked → Type 0
-IsAsked (Join log files) (ask.Join name) = name ≡ given log
-IsAsked (Split by log files) (ask.Split unit name) = (unit_named by.now ≡ Some unit) × (name ≡ given log)
-IsAsked (Missing from to) (ask.Missing count) = count ≡ length from.items
-IsAsked (MissingBy from inventory) ask.MissingBy = ⊤
-IsAsked (Inventory files) ask.Inventory = ⊤
-IsAsked (Sketch cells salt files) (ask.Sketch count number) = IsGivenNumber cells count × IsGivenNumber salt number
-IsAsked (MissingBySketch from sketch) ask.MissingBySketch = ⊤
-IsAsked (Seal files) ask.Seal = ⊤
-IsAsked (Prove facts files) ask.Prove = ⊤
-IsAsked (Verify absent seal facts proof) (ask.Verify none) = none ≡ absent
-IsAsked (Rule letter key place files) (ask.Rule c name n) =
-    (encode_utf8 c ≡ letter.now) × (name ≡ key.now) × IsArgumentNumber place.now n
-IsAsked (Rehearse log sites script) (ask.Rehearse name n) = (name ≡ log.now) × IsArgumentNumber sites.now n
-IsAsked (Show conflicts files) (ask.Show only) = only ≡ conflicts
-IsAsked (Check files) ask.Check = ⊤
-IsAsked _ _ = ⊥
 
 abbrev pub names_of : Request → List Word
 names_of (Join log files) = texts files.items
@@ -60,3 +113,6 @@ names_of (Rule letter key place files) = texts files.items
 names_of (Rehearse log sites script) = script.now ∷ []
 names_of (Show conflicts files) = texts files.items
 names_of (Check files) = texts files.items
+
+abbrev pub IsAccepted : Request → Type 0
+IsAccepted q = IfOk (asked_by q) (λ t. accepts t (length (names_of q)) ≡ true)

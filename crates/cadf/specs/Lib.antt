@@ -1,2 +1,3 @@
 pub mod Asked
-pub mod Given
+pub mod Opened
+pub mod Run

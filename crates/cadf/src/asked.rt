@@ -1,17 +1,16 @@
 //! What a request of the command line asks of its files, and the names of these.
 ghost use Rattle.std.specs.Prelude.{◌≡◌, ◌++◌, IfOk};
-ghost use Rattle.cadf.specs.Asked.{texts, names_of, IsAsked};
+ghost use Rattle.cadf.specs.Asked.{asked_by, texts, names_of, IsRead};
 
 use crate::given::{cells_given, letter_given, log_given, place_given, salt_given, sites_given};
-use crate::stop::Stop;
-use cadf_arguments::{read_key, read_log, read_unit};
+use cadf_arguments::{ArgumentFault, read_key, read_log, read_unit};
 use cadf_tool::Request as Asked;
 use cadf_words::Request;
 use std::alloc::{AllocError, Global};
 
-/// Returns what the request asks of its files. `Err`: the first of its arguments that is refused.
-pub(crate) fn asked_of(alloc: Global, request: &Request<'_>) -> Result<Asked, Stop>
-    ensures { IfOk result (IsAsked request.now) }
+/// Returns what the request asks of its files. `Err`: the first of its arguments that is refused, or `Memory`.
+pub(crate) fn asked_of(alloc: Global, request: &Request<'_>) -> Result<Asked, ArgumentFault>
+    ensures { IsRead (asked_by request.now) result }
 {
     Ok(match request {
         Request::Join { log, .. } => {

@@ -4,13 +4,16 @@
 ghost use Rattle.std.specs.Prelude.{◌≡◌, ◌≢◌, [], IfOk, IfErr};
 ghost use Rattle.std.specs.Io.KnownBytes.{Keeps};
 ghost use Rattle.std.specs.Io.Buffered.{writer_buffer, writer_contents};
+ghost use Rattle.cadf.specs.Asked.{IsAccepted};
 
 mod asked;
 mod given;
+mod opener;
 mod runner;
 mod stop;
 
-use crate::runner::Runner;
+use crate::opener::SystemOpener;
+use crate::runner::run_request;
 use crate::stop::{REFUSED, Stop, report};
 use cadf_json::FromStd;
 use cadf_tool::{CountingSink, FILE_LIMIT, OverLimit, ToolFault};
@@ -32,23 +35,23 @@ fn flushed<W: Write + Drop>(mut buffer: BufWriter<W>) -> Result<BufWriter<W>, To
 
 /// Runs the request's engine on standard output. Returns a report if the output is larger than an input may be. `Err`:
 /// why the engine failed.
-fn run_out(rt: &HostRuntime, request: &Request<'_>) -> Result<Option<OverLimit>, Stop> {
+fn run_out(rt: &HostRuntime, request: &Request<'_>) -> Result<Option<OverLimit>, Stop>
+    requires { IsAccepted request.now }
+{
     let Ok(buffer) = BufWriter::new(rt.alloc(), io::writer(rt)) else {
         return Err(Stop::Tool(ToolFault::Memory));
     };
-    let mut runner = Runner {
-        rt,
-        alloc: rt.alloc(),
-        output: CountingSink::new(FromStd::new(buffer)),
-    };
-    runner.run(request)?;
-    let over_limit = runner.output.over_limit(FILE_LIMIT);
-    flushed(runner.output.into_inner().into_inner())?;
+    let mut output = CountingSink::new(FromStd::new(buffer));
+    run_request(rt.alloc(), request, &mut SystemOpener { rt }, &mut output)?;
+    let over_limit = output.over_limit(FILE_LIMIT);
+    flushed(output.into_inner().into_inner())?;
     Ok(over_limit)
 }
 
 /// Runs the request, reports a fault or too large an output on standard error, and returns the exit status.
-fn run(rt: &HostRuntime, request: &Request<'_>) -> ExitCode {
+fn run(rt: &HostRuntime, request: &Request<'_>) -> ExitCode
+    requires { IsAccepted request.now }
+{
     match run_out(rt, request) {
         Ok(Some(over_limit)) => {
             let _ = eprintln!(rt; "cadf: {over_limit}");

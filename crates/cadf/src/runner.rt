@@ -1,47 +1,72 @@
 //! Opens the files of a request, and runs it on them.
-ghost use Rattle.std.specs.Prelude.{◌≡◌, length, IfOk};
+ghost use Rattle.std.specs.Prelude.{◌≡◌, true, length, map, MatchResult};
+ghost use Rattle.cadf_tool.specs.Inputs.{source_state};
+ghost use Rattle.cadf_tool.specs.Request.{accepts};
+ghost use Rattle.cadf.specs.Asked.{texts, names_of, IsAccepted};
+ghost use Rattle.cadf.specs.Opened.{AreOpened, IsUnopened};
+ghost use Rattle.cadf.specs.Run.{IsAskedRun, IsRunOn};
 
 use crate::asked::{asked_of, names_of};
+use crate::opener::Opener;
 use crate::stop::Stop;
-use cadf_json::{FromStd, Sink};
-use cadf_tool::{ToolFault, run};
+use cadf_json::Sink;
+use cadf_tool::{Request as Asked, ToolFault, run};
 use cadf_words::Request;
 use std::alloc::Global;
-use std::fs;
-use std::fs::Files;
 
-/// Runs requests on files. `Err`: a refused argument, then a file that can't be opened, then the fault of the run.
-#[derive(Drop)]
-pub(crate) struct Runner<'r, R, W> {
-    pub(crate) rt: &'r R,
-    pub(crate) alloc: Global,
-    pub(crate) output: W,
+/// Opens the files of these names in their order. `ReadFault` has the number of the first that can't be opened, from 1;
+/// `Memory` if an allocation fails.
+fn open_all<O: Opener>(
+    alloc: Global,
+    opener: &mut O,
+    names: &[&str],
+) -> Result<Vec<O::File>, ToolFault>
+    ensures { MatchResult result
+        (λ files. AreOpened (O.state opener.old) (O.state opener.new) (texts names.now) (map (source_state O.File.Source) files.items))
+        (IsUnopened (O.state opener.old) (O.state opener.new) (texts names.now)) }
+{
+    let mut files = Vec::new(alloc);
+    for name in names {
+        let Ok(file) = opener.open(name) else {
+            return Err(ToolFault::ReadFault(files.len() + 1));
+        };
+        files.push(file)?;
+    }
+    Ok(files)
 }
 
-impl<R: Files, W: Sink> Runner<'_, R, W> {
-    /// Opens the files of these names in their order. `ReadFault` has the number of the first that can't be opened, from
-    /// 1; `Memory` if an allocation fails.
-    fn open_all(&self, names: &[&str]) -> Result<Vec<FromStd<R::File>>, ToolFault>
-        ensures { IfOk result (λ files. length files.items ≡ length names.now) }
-    {
-        let mut files = Vec::new(self.alloc);
-        for name in names {
-            let Ok(file) = fs::open(self.rt, name) else {
-                return Err(ToolFault::ReadFault(files.len() + 1));
-            };
-            files.push(FromStd::new(file))?;
-        }
-        Ok(files)
-    }
+/// Runs what the request asks on its files, which are all opened before one is read.
+fn run_asked<O: Opener, W: Sink>(
+    alloc: Global,
+    asked: &Asked,
+    request: &Request<'_>,
+    opener: &mut O,
+    output: &mut W,
+) -> Result<(), ToolFault>
+    requires { accepts asked.now (length (names_of request.now)) ≡ true }
+    ensures { IsAskedRun asked.now (names_of request.now) (O.state opener.old) (O.state opener.new) O.File.Source W.Sink
+        output.old output.new result }
+{
+    let Ok(names) = names_of(alloc, request) else {
+        return Err(ToolFault::Memory);
+    };
+    let mut files = open_all(alloc, opener, &names)?;
+    run(alloc, asked, &mut files, output)
+}
 
-    /// Runs what the request asks on its files, which are all opened before one is read.
-    pub(crate) fn run(&mut self, request: &Request<'_>) -> Result<(), Stop> {
-        let asked = asked_of(self.alloc, request)?;
-        let names = names_of(self.alloc, request).or(Err(ToolFault::Memory))?;
-        let mut files = self.open_all(&names)?;
-        if !asked.accepts(files.len()) {
-            return Err(Stop::Tool(ToolFault::NoLog));
-        }
-        Ok(run(self.alloc, &asked, &mut files, &mut self.output)?)
-    }
+/// Runs the request. `Err`: a refused argument, then a file that can't be opened, then the fault of the run.
+pub(crate) fn run_request<O: Opener, W: Sink>(
+    alloc: Global,
+    request: &Request<'_>,
+    opener: &mut O,
+    output: &mut W,
+) -> Result<(), Stop>
+    requires { IsAccepted request.now }
+    ensures { IsRunOn request.now (O.state opener.old) (O.state opener.new) O.File.Source W.Sink output.old output.new result }
+{
+    let asked = match asked_of(alloc, request) {
+        Ok(asked) => asked,
+        Err(fault) => return Err(Stop::Argument(fault)),
+    };
+    run_asked(alloc, &asked, request, opener, output).map_err(Stop::Tool)
 }

@@ -1,4 +1,8 @@
 //! Why a command failed, and how that is reported.
+ghost use Rattle.std.specs.Prelude.{◌≡◌};
+ghost use Rattle.std.specs.Process.{exit_status};
+ghost use Rattle.cadf.specs.Run.{stop_status};
+
 use cadf_arguments::ArgumentFault;
 use cadf_tool::{ToolFault, status};
 use std::process::ExitCode;
@@ -18,7 +22,9 @@ pub(crate) enum Stop {
 }
 
 /// Reports on standard error why the command failed, and returns the exit status.
-pub(crate) fn report(rt: &HostRuntime, stop: &Stop) -> ExitCode {
+pub(crate) fn report(rt: &HostRuntime, stop: &Stop) -> ExitCode
+    ensures { exit_status result ≡ stop_status stop.now }
+{
     let _ = eprintln!(rt; "cadf: {stop}");
     ExitCode::from(match stop {
         Stop::Tool(fault) => status(fault),
