@@ -428,7 +428,7 @@ def check_labels(unit, log, labels, inputs):
     for label, each in zip(labels, inputs):
         own[label].append(each)
     for label, those in own.items():
-        if len(those) == 1 and found.get(label) == last_digest(those[0].file):
+        if len(those) == 1 and label in found and found[label] == last_digest(those[0].file):
             continue
         others = (found if len(own) == 1 else parts_in(unit, log, those)).keys() - {label}
         if others:

@@ -9,7 +9,12 @@ import re
 import stat
 
 import cadf_site
-from cadf_toolkit import Fault, name_shown, wait_for_lock
+from cadf_toolkit import Fault, name_shown, wait_for_lock, write_all
+
+try:
+    import pwd
+except ImportError:  # as where there are no users
+    pwd = None
 
 PARTS = ("taking", "taken", "set-aside")
 LOCK = ".spool.lock"
@@ -17,6 +22,8 @@ WAITS, REASON = "waits-", ".reason"  # with which the name of a file of facts th
 SENDERS = ".senders"  # of set-aside/ and taking/: who sent each file there
 SENDER = re.compile("([0-9]{1,10}) ([^\n]+)\n")
 LONGEST_SENDERS = 2 ** 26  # bytes
+LEAST_BYTES = 4096  # that a file counts as
+SUBORDINATE = re.compile("([^:\n]+):([0-9]{1,10}):([0-9]{1,10})\n")  # a line of /etc/subuid: a user has so many numbers from that one on
 
 
 def within(folder):
@@ -43,6 +50,15 @@ def is_there(name, folder):
     except FileNotFoundError:
         return False
     return True
+
+
+def sender_of(owner):
+    """The user whose number an owner's is: it may be one of those that a user has for containers, who else could send as thousands."""
+    with contextlib.suppress(OSError, KeyError, AttributeError), open("/etc/subuid", encoding="utf-8", errors="replace") as file:
+        for name, first, count in SUBORDINATE.findall(file.read(LONGEST_SENDERS)):
+            if int(first) <= owner < int(first) + int(count):
+                return int(name) if name.isdigit() else pwd.getpwnam(name).pw_uid
+    return owner
 
 
 class SpoolFolder:
@@ -100,6 +116,15 @@ class SpoolFolder:
         """The names of these files but those that say why another is there."""
         names = set(self.waiting())
         return sorted(name for name in names if not (name.endswith(REASON) and name[:-len(REASON)] in names))
+
+    def bytes_waiting(self):
+        """How much is in set-aside/, by the names of the files: what is on the disk, and of many small files something for each."""
+        return {name: max(LEAST_BYTES, min(found.st_size, found.st_blocks * 512)) for name, found in self.waiting().items()}
+
+    def add_sender(self, name, user):
+        """Notes the user of a further file in set-aside/."""
+        with open(SENDERS, "ab", buffering=0, opener=within(self.aside)) as file:
+            write_all(file.fileno(), b"\n%d %s\n" % (user, name.encode()))  # after a line that was cut off
 
     def senders(self, folder=None):
         """The user of each file in set-aside/, or in another part, by its name, as far as that was noted."""

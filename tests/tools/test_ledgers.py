@@ -2,7 +2,9 @@
 
 A test has the tool take the files of whoever runs it for those of another user: it is told another number for its own.
 """
+import contextlib
 import functools
+import io
 import json
 import os
 import sys
@@ -19,6 +21,7 @@ from tests.tools.test_spool import Spools, content, held, put, shared
 
 sys.path.insert(0, os.path.join(TOP, "share", "cadf"))
 import cadf_ledgers
+import cadf_spool
 
 __all__ = ["shared"]
 NONE = dict.fromkeys(cadf_ledgers.KINDS, 10 ** 12)  # limits that nobody reaches
@@ -75,6 +78,12 @@ def stay(count, why):
     return "user %d: %d files stay where they are: %s" % (USER, count, why)
 
 
+def users(text, monkeypatch):
+    """Has the system have these subordinate numbers of users."""
+    right = open
+    monkeypatch.setattr("builtins.open", lambda name, *words, **options: io.StringIO(text) if name == "/etc/subuid" else right(name, *words, **options))
+
+
 # ---- The ledgers
 
 def test_levels(tmp_path):
@@ -111,6 +120,12 @@ def test_more_senders_than_ledgers(tmp_path):
     assert len(ledgers.levels) <= cadf_ledgers.MOST + 1 and ledgers.reached(0, {}) is None and ledgers.reached(10 ** 6, {}) == "bytes"
     assert len(cadf_ledgers.Ledgers(folder, dict(NONE, bytes=10)).levels) == len(ledgers.levels)
     os.close(folder)
+
+
+def test_a_user_with_many_numbers_is_one_sender(monkeypatch):
+    """Whoever has numbers for containers could else send as each of them."""
+    users("root:100000:10\n%d:100010:65536\nnobody-of-that-name:300000:10\nodd\n" % USER, monkeypatch)
+    assert [cadf_spool.sender_of(owner) for owner in (99999, 100000, 100009, 100010, 165545, 165546, 300001)] == [99999, 0, 0, USER, USER, 165546, 300001]
 
 
 # ---- A spool
@@ -191,9 +206,28 @@ def test_a_cap_keeps_files_with_their_sender(place):
     place.lines("a.jsonl", b"".join(b"x%d\n" % number for number in range(1000)))
     place.run_once()
     place.send("b.json", event("b", "2024-03-01T12:00:00Z"))
-    left, said = place.run_once({"waiting": 10 ** 4})
+    left, said = place.run_once({"waiting": 3 * 10 ** 4})
     assert left == ["b.json"] and any("and more than an equal share is theirs" in line for line in said)
     assert place.run_once({"waiting": 10 ** 6})[0] == []
+
+
+def test_no_file_without_bytes_makes_others_wait(place):
+    """What is large on no disk fills no cap: a sparse file that is set aside counts as what it takes."""
+    with open(os.path.join(place.spool, "a.json"), "wb") as file:
+        file.truncate(2 ** 40)
+    place.run_once()
+    place.send("b.json", event("b", "2024-03-01T12:00:00Z"))
+    assert "a.json" in os.listdir(os.path.join(place.spool, "set-aside")) and place.run_once({"waiting": 10 ** 5})[0] == []
+
+
+def test_files_that_nobody_closes(place):
+    """Of files that wait without end no more are claimed than may be made in a day, and few are named."""
+    with contextlib.ExitStack() as writers:
+        for number in range(300):
+            writers.enter_context(open(os.path.join(place.spool, "%03d.jsonl" % number), "wb"))
+        for _ in range(2):
+            left, said = place.run_once(files=200)
+            assert len(left) == 100 and 50 < len(said) < 110 and stay(100, "more than --sender-files a day") in said
 
 
 def test_a_line_that_is_long(place):
@@ -257,7 +291,7 @@ def test_files_that_are_claimed_wait_if_their_sender_has_cost_too_much(shared):
         of_a_user(shared, name, b"".join(b"%s%d\n" % (name.encode(), each) for each in range(3000)), others.SENDER)
     of_a_user(shared, "d.json", text("honest"), others.OTHER)
     done = shared.takes_own("--unchanged", "0", "--sender-bytes", "100000")
-    assert b"more than --sender-bytes a day of user %d" % others.SENDER in done.error and done.status == 0, done
+    assert b"user %d: 2 files stay in taking/: more than --sender-bytes a day" % others.SENDER in done.error and done.status == 0, done
     assert sorted(held(os.path.join(shared.spool, "taken"))) == ["a.jsonl", "d.json"] and sorted(held(os.path.join(shared.spool, "taking"))) != []
     assert atoms_of(event("honest", "2024-03-01T12:00:00Z")) <= read_file(content(shared.own))[1]
 
@@ -265,9 +299,11 @@ def test_files_that_are_claimed_wait_if_their_sender_has_cost_too_much(shared):
 # ---- Copies that do wrong
 
 @pytest.mark.parametrize("check, texts", [
+    (test_files_that_nobody_closes, ["if self.named <= MOST_SAID:", "if True:"]),
+    (test_no_file_without_bytes_makes_others_wait, ["for name, size in self.bytes_waiting().items():", "for name, size in ((name, each.st_size) for name, each in self.waiting().items()):"]),
     (test_hard_links, ["found.st_nlink > 1", "found.st_nlink > 100"]),
-    (test_bytes_of_a_day, ["        for part in (self.spool.taking, self.spool.aside):\n            for each", "        for part in ():\n            for each"]),
-    (test_files_of_a_day, ["coming[found.st_uid].update(bytes=found.st_size, files=1)", "coming[found.st_uid].update(bytes=found.st_size)"]),
+    (test_bytes_of_a_day, ["if (made or part != self.spool.taking) and is_there(each, part):", "if False:"]),
+    (test_files_of_a_day, ["coming[user].update(bytes=found.st_size, files=1)", "coming[user].update(bytes=found.st_size)"]),
     (test_windows_of_a_day, ["self.charge(user, \"windows\", int(begun))", "self.charge(user, \"windows\", 0)"]),
     (test_processor_time_of_a_day, ["found.ru_utime + found.ru_stime", "0"]),
     (test_a_cap_keeps_files_with_their_sender, ["size > most / len(sizes)", "size > most * 1000"]),

@@ -228,7 +228,7 @@ def test_more_waits_than_may(place):
     arrives(place, "a.jsonl", *days("2024-02-01", 1))
     with open(place.path / "spool" / "a.jsonl", "a", encoding="utf-8") as file:
         file.write("x\n")
-    assert place.spool("--waiting", "1000").status == 0
+    assert place.spool("--waiting", "10000").status == 0
     arrives(place, "b.jsonl", *days("2024-02-01", 2))
     done = place.spool("--waiting", "10")
     assert done.status == 5 and b"set-aside: " in done.error and b" bytes, more than --waiting: " in done.error

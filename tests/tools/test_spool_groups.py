@@ -22,9 +22,9 @@ def groups(program, folder, sizes):
         with open(folder / name, "wb") as file:
             file.truncate(size)
     taken = []
-    run = types.SimpleNamespace(prepared=lambda _, name: [name], take=lambda group: taken.append(len(group)))
+    run = types.SimpleNamespace(prepared=lambda _, name: [name], take=lambda group: taken.append(len(group)), reached=lambda _: None, say_left=lambda *_: None)
     with program.open_descriptor(os.open(folder, os.O_RDONLY)) as taking:
-        run.spool = types.SimpleNamespace(claimed=lambda: names, taking=taking)
+        run.spool = types.SimpleNamespace(claimed=lambda: names, user=lambda _: 0, taking=taking)
         program.Run.take_all(run)
     return taken
 

@@ -380,6 +380,8 @@ LIES = {
     "no object": (b"CADF-SYNC 1 []\n", 1, "the far shell prints"),
     "deep": (b"CADF-SYNC 1 {\"a\":" + b"[" * 9000 + b"]" * 9000 + b"}\n", 1, "the far shell prints"),
     "no limit": (b"CADF-SYNC 1 {}\n", 1, "no limit from "),
+    "a limit of 30,000 digits": (b'CADF-SYNC 1 {"limit":' + b"9" * 30000 + b"}\n", 1, "limit"),
+    "a log that is no text": (first(log="\ud800"), 1, "no text in the first line: log"),
     "facts -1": (first(facts=-1), 1, "no facts from "),
     "limit -1": (first(limit=-1), 1, "no limit"),
     "limit true": (first(limit=True), 1, "no limit"),
@@ -418,6 +420,8 @@ LIES = {
     "no kind": (answered((b"all", b"shell", b"")), 1, "no items that may answer"),
     "another part": (answered((b"shared", b"facts", GOOD)), 1, "no answer for inventory of all: facts of shared"),
     "another kind": (answered((b"all", b"sketch", b"")), 1, "no answer for inventory of all: sketch of all"),
+    "ten thousand items": (FIRST + LIST + message(b"answer", items(*[(b"all", b"none", b"")] * 10001)), 1, "no items that may answer"),
+    "a conflict list": (answered((b"all", b"facts", b'{"conflicts":[],"rulings":[]}'), SKETCHED), 1, "all from h:there.cadf: event 0: id" + CAME_SO),
     "too many items": (answered(*[(b"all", b"none", b"")] * 3), 1, "no items that may answer"),
     "cells after an inventory": (answered((b"all", b"more", b"300")), 1, "no answer for inventory of all: more of all"),
     "facts that are none": (answered((b"all", b"facts", b"\x7fELF"), SKETCHED), 1, "all from h:there.cadf: not JSON"),
@@ -1062,6 +1066,7 @@ def test_facts_of_another_window_than_they_say(folders):
 SWAPPED = {"two windows": lambda one, other: [(b"2024-03-02", other), (b"2024-03-03", one)],
            "one of two": lambda one, other: [(b"2024-03-02", one | other), (b"2024-03-03", other)],
            "a piece": lambda one, other: [(b"2024-03-02", one), (b"2024-03-03", other), (b"2024-03-02", other)]}
+DOCUMENT = json.dumps({"id": "g", "events": [dict(EVENT, id="d", eventTime="2024-03-09T00:00:00Z")]}).encode()  # which has no digest
 
 
 def test_two_windows_that_are_swapped(folders):
@@ -1069,8 +1074,8 @@ def test_two_windows_that_are_swapped(folders):
     folders.put("here/", facts(4))
     one, other = (parts_of(facts(1, 2), "day")["2024-03-0%d" % day] for day in (2, 3))
     hello = b'CADF-SYNC 1 {"limit":1073741824,"log":"g","site":"here/","timeout":20,"unit":"day","since":null}\n'
-    for kind, made in {**SWAPPED, "none": lambda one, other: [(b"2024-03-02", one), (b"2024-03-03", other), (b"2024-03-02", one)]}.items():
-        sent = [(part, b"facts", file_of("g", atoms)) for part, atoms in made(one, other)]
+    for kind, made in {**SWAPPED, "a document": lambda one, _: [(b"2024-03-02", one), (b"2024-03-03", DOCUMENT)], "none": lambda one, other: [(b"2024-03-02", one), (b"2024-03-03", other), (b"2024-03-02", one)]}.items():
+        sent = [(part, b"facts", atoms if atoms is DOCUMENT else file_of("g", atoms)) for part, atoms in made(one, other)]
         before = folders.files("here/")
         answer = folders.runs("cadf-sync", "--serve", "--timeout=20", "here/", input=hello + message(b"take", items(*sent)))
         if kind == "none":
@@ -1697,7 +1702,8 @@ WRONG_OF_FOLDERS = [
      lambda folders: test_two_files_stop_no_exchange(folders, ("south/", "north/"))),
     ("            if self.unit is not None:\n                cadf_site.check_labels(", "            if False:\n                cadf_site.check_labels(", test_facts_of_another_window_than_they_say),
     ("parts_in(unit, log, those)).keys() - {label}", "{}).keys() - own.keys()", test_two_windows_that_are_swapped),
-    ("if len(those) == 1 and found.get(label) == last_digest(those[0].file):", "if len(those) == 1 and found.get(label):", test_two_windows_that_are_swapped),
+    ("label in found and found[label] == last_digest(those[0].file):", "label in found:", test_two_windows_that_are_swapped),
+    ("label in found and found[label] == last_digest(those[0].file):", "found.get(label) == last_digest(those[0].file):", test_two_windows_that_are_swapped),
     ("        items = self.within_limit(items, peer)\n", "", test_a_caller_that_sends_more_windows_than_it_may),
 ]
 
