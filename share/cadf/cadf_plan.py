@@ -12,8 +12,8 @@ import cadf_index
 from cadf_index import KEY_BYTES, key_of
 from cadf_index_file import planned
 from cadf_keys import NODES, RULINGS, Windows, contents, keys_in, rulings_in, spelled
-from cadf_site import CHANGED, DAMAGED, SHARED, TRIES, opened_parts
-from cadf_toolkit import REFUSED, Fault, grouped, last_digest, most_files, opened
+from cadf_site import CHANGED, SHARED, TRIES, opened_parts
+from cadf_toolkit import Fault, grouped, most_files, opened
 
 MOST_BYTES, MOST_FILES = 2 ** 22, 64  # that are shown at a call, of many windows
 OTHERS = 64  # files that are open beside those of a site
@@ -92,9 +92,8 @@ class Plan(Windows):
         if self.question.has_ids and None in self.keys.values():
             for part in order:
                 with self.site_folder.leaving_out(part):
-                    for digest, each in self.inputs[part].items():
-                        if last_digest(each.file) != digest:
-                            raise Fault("%s: %s" % (each.name, DAMAGED), REFUSED)
+                    for item in self.inputs[part].items():
+                        contents(*item)  # a file that can't be read would end a program that maps it
                 if part not in self.damaged:
                     yield list(self.inputs[part].values()), [part]
             return

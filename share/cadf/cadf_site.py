@@ -23,8 +23,8 @@ import subprocess
 import tempfile
 
 from cadf_times import Bounds
-from cadf_toolkit import (CADF, DIFFERS, DONE, FAILED, IN_THE_WAY, LARGEST, LAST, MEMORY, REFUSED, Fault, Input, Refusal, allow_inputs, another_program,
-                          as_input, cadf, check_end, check_lock, grouped, last_digest, log_name, name_shown, new_lock, open_descriptor, opened_file,
+from cadf_toolkit import (CADF, DIFFERS, DONE, FAILED, IN_THE_WAY, LARGEST, LAST, MEMORY, NOT_ITS_FAULT, REFUSED, Fault, Input, Refusal, allow_inputs,
+                          another_program, as_input, cadf, check_end, check_lock, grouped, last_digest, log_name, name_shown, new_lock, open_descriptor, opened_file,
                           other_log, say, started_cadf, sync, wait_for_lock, whole_number, with_digest)
 
 ALL = 10 ** 9 - 1  # windows that a take may begin if a person allows all
@@ -58,7 +58,6 @@ NO_SITE = "no site in it: `cadf-take --by day SITE/ FILE..` makes one"
 DAMAGED = "the site is damaged: `cadf-sync --repair SITE/ HOST:SITE` mends it, or restore it as the guide says under `A damaged site`"
 LOST = "the site is damaged: restore it as the guide says under `A damaged site`"  # which names its windows no more
 NO_FILE = "not a regular file: "
-NOT_ITS_FAULT = (errno.EMFILE, errno.ENFILE, errno.ENOMEM)  # of a file that can't be opened now
 OTHER_CONTENT = "it holds something else than its name says: " + DAMAGED
 
 

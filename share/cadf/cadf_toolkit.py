@@ -33,6 +33,7 @@ PATIENCE = 1  # seconds before a lock that is held is worth a line
 PAUSE = 0.05  # seconds between two looks at a lock
 BEGUN, QUIET, BETWEEN_LINES = time.monotonic(), 2, 0.2  # seconds before progress is worth a line, and between two
 CLEARED = "\r\x1b[K"  # what empties the line of a terminal
+NOT_ITS_FAULT = (errno.EMFILE, errno.ENFILE, errno.ENOMEM)  # of a file that can't be opened now
 NOT_REGULAR = "not a regular file; what a pipe brings is taken from standard input, as `-`"
 FULL = (errno.ENOSPC, errno.EDQUOT, errno.EFBIG)  # of a write for which there is no room
 NO_ROOM = ": make room there, or name another folder by TMPDIR"
@@ -372,6 +373,8 @@ class Input:
                 while file.read(2 ** 20):
                     pass
         except OSError as fault:
+            if fault.errno in NOT_ITS_FAULT:
+                raise
             raise Fault("%s: %s" % (self.name, fault.strerror)) from None
 
     def log(self):
@@ -388,9 +391,14 @@ class Input:
             yield file
 
     def whole(self):
-        """All its bytes."""
-        with self.reading() as file:
-            return file.read()
+        """All its bytes. Fault: they can't be read, while others may be."""
+        try:
+            with self.reading() as file:
+                return file.read()
+        except OSError as fault:
+            if fault.errno in NOT_ITS_FAULT:
+                raise
+            raise Fault("%s: %s" % (self.name, fault.strerror)) from None
 
     def kind(self):
         """What else the file is than one of facts, or None."""
