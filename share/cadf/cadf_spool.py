@@ -4,6 +4,7 @@ docs/OPENSTACK.md says what is in it. cadf-spool takes from it, cadf-admit shows
 """
 import contextlib
 import errno
+import functools
 import os
 import re
 import stat
@@ -52,6 +53,7 @@ def is_there(name, folder):
     return True
 
 
+@functools.lru_cache(2 ** 12)
 def sender_of(owner):
     """The user whose number an owner's is: it may be one of those that a user has for containers, who else could send as thousands."""
     with contextlib.suppress(OSError, KeyError, AttributeError), open("/etc/subuid", encoding="utf-8", errors="replace") as file:

@@ -120,3 +120,22 @@ def test_figures():
     assert list(told["chart"](results.replace("16,689; 28,561", "16,689; 128,561"))) != list(told["chart"](results))
     said = text_of("docs", "PERFORMANCE.md")
     assert "A file: 47 s" in told["with_figures"](said, results.replace("| 46 s, 988", "| 47 s, 988"), told["FIGURES"][told["PERFORMANCE"]])[0]
+
+
+def attempts():
+    """The rows of SECURITY's table of who could do what, as lists of what their cells have."""
+    table = text_of("docs", "SECURITY.md").split("\n| Who | What they could try |")[1].split("\n\n")[0].splitlines()[2:]
+    return [[cell.strip() for cell in line.strip().strip("|").split("|")] for line in table]
+
+
+def test_what_stops_an_attempt_is_tested():
+    """Each row of SECURITY that says what stops something names a test that is there, or says that it is proved."""
+    defined = set()
+    for folder in "tests", "bindings":
+        for place, _, names in os.walk(os.path.join(TOP, folder)):
+            for name in names:
+                if name.endswith(".py"):
+                    defined.update(re.findall(r"def (test_\w+)", text_of(place, name)))
+    rows = attempts()
+    assert len(rows) > 40 and {name for row in rows for name in re.findall(r"`(test_\w+)`", row[2])} <= defined
+    assert [row for row in rows if row[2] and "`test_" not in row[2] and "[proved]" not in row[2]] == []

@@ -583,6 +583,17 @@ def test_what_is_set_aside_is_written_in_batches(monkeypatch):
     assert len(sizes) <= 2 * sum(sizes) // program.BLOCK + 2 and [json.loads(line)["line"] for line in open("aside", "rb")] == list(range(5000))
 
 
+def test_equal_lines_are_judged_once(monkeypatch):
+    """What comes again costs its bytes."""
+    put("many", b"{}\n" * 1000 + b"x\n" * 1000 + b"y\n")
+    program, judged = loaded(TOOL), []
+    run = program.Run(list(program.RULES), program.Documents("g", "made", 2 ** 20), program.SetAside("aside"), 2 ** 20, False)
+    right = run.judged
+    run.judged = lambda data: (judged.append(data), right(data))[1]
+    run.read("many")
+    assert judged == [b"{}", b"x", b"y"] and run.counts["set aside"] == 2001
+
+
 def test_equal_lines_are_set_aside_once():
     """All are counted. Of lines of control characters, of which each would be six bytes as text, what is set aside is a third longer."""
     first, second, zeros = b"x\n" * 1000, json.dumps({"id": 1}).encode() + b"\n", bytes(2 ** 16) + b"\n"
