@@ -235,6 +235,18 @@ def test_more_waits_than_may(place):
     assert place.site() == atoms_of(*days("2024-02-01", 2))
 
 
+def test_a_bus_fills_no_disk_by_what_is_refused(place):
+    """Once more waits than may, what is refused of the caller's own files is in taken/ alone, and is named; what is right is taken."""
+    for name, day in ("a.jsonl", "2024-02-01"), ("b.jsonl", "2024-02-02"):
+        arrives(place, name, *days(day, 1))
+        with open(place.path / "spool" / name, "a", encoding="utf-8") as file:
+            file.write("%s is no event\n" % name)
+        done = place.spool("--waiting", "1000")
+        assert done.status == 5 and place.site() >= atoms_of(*days(day, 1))
+    assert b"b.jsonl: what of it is refused is in taken/ alone, since set-aside/ has more than --waiting" in done.error and list(place.lines()) == ["a.jsonl"]
+    assert (place.path / "spool" / "taken" / "b.jsonl").read_text().endswith("b.jsonl is no event\n")
+
+
 # ---- cadf-admit
 
 def test_admit(place):
@@ -307,6 +319,7 @@ def test_names_on_a_terminal(place):
     (test_401_hostile_messages_keep_no_honest_one_out, ["if counts and (by or", "if False and (by or"]),
     (test_a_sender_takes_no_name_of_what_waits, ["or name.startswith(WAITS):", ":"]),
     (test_what_waits_waits_once, ["return done.status == DONE\n\n    def empty", "return True\n\n    def empty"]),
+    (test_a_bus_fills_no_disk_by_what_is_refused, ["        self.is_full = bool(beyond)\n", ""]),
     (test_more_waits_than_may, ["if waiting > self.budget.waiting:", "if False:"]),
     (test_admit, ["if is_there(name, spool.folder):", "if False:"]),
     (test_admit_into_a_site_that_refuses, ["        if child.returncode:\n            raise Fault(said, child", "        if False:\n            raise Fault(said, child"]),
