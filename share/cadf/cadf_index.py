@@ -1,4 +1,4 @@
-"""The index beside the windows of a site that is a folder: which keys of which windows may answer a question.
+"""The index beside the windows of a site that is a folder: which keys of which windows may answer a question, and what else is kept.
 
 It is an SQLite file that is made of the windows alone, so it may be removed at any time, and a call without it gives the same answer.
 Of each body of an event it has a row: the window, 16 bytes of the digest of its key, its instant, and what a pattern may match of
@@ -9,21 +9,25 @@ cadf_index_file has where it is, and whether it is trusted.
 """
 import collections
 import contextlib
+import functools
 import hashlib
 import json
+import os
 import sqlite3
+from typing import NamedTuple
 
-from cadf_keys import contents, keys_in, spelled
+from cadf_children import usable
+from cadf_keys import KEY, contents, keys_in, spelled
 from cadf_logs import UNREADABLE, instant, utc
 from cadf_question import LENGTHS, traits
-from cadf_site import CHANGED, SHARED, TRIES, opened_parts
+from cadf_site import CHANGED, DAMAGED, SHARED, TRIES, made_or_left_out, opened_parts
 from cadf_times import SECOND
-from cadf_toolkit import Progress
+from cadf_toolkit import REFUSED, Fault, Progress, last_digest
 
 APPLICATION, VERSION = int.from_bytes(b"CADF", "big"), 1
 COLUMNS = ("initiator", "target", "others")  # of bodies, with numbers of texts
 SCHEMA = [
-    "CREATE TABLE windows (id INTEGER PRIMARY KEY, name TEXT NOT NULL UNIQUE, files BLOB NOT NULL)",
+    "CREATE TABLE windows (id INTEGER PRIMARY KEY, name TEXT NOT NULL UNIQUE, files BLOB NOT NULL, bytes INTEGER NOT NULL)",
     "CREATE TABLE texts (id INTEGER PRIMARY KEY, hash INTEGER NOT NULL, text TEXT NOT NULL)",
     "CREATE INDEX texts_by_hash ON texts (hash)",
     "CREATE TABLE several (key BLOB PRIMARY KEY) WITHOUT ROWID",
@@ -31,14 +35,18 @@ SCHEMA = [
     " initiator INTEGER NOT NULL, target INTEGER NOT NULL, others INTEGER NOT NULL)",
     "CREATE INDEX bodies_by_window ON bodies (window)",
     "CREATE INDEX bodies_by_key ON bodies (key, window)",
-    *("CREATE INDEX bodies_by_%s ON bodies (%s, window)" % (column, column) for column in COLUMNS)]
+    *("CREATE INDEX bodies_by_%s ON bodies (%s, window)" % (column, column) for column in COLUMNS),
+    "CREATE TABLE places (key BLOB NOT NULL, window INTEGER NOT NULL, digest TEXT NOT NULL, begin INTEGER NOT NULL, length INTEGER NOT NULL,"
+    " hash BLOB NOT NULL, PRIMARY KEY (key, window, digest)) WITHOUT ROWID",
+    "CREATE TABLE kept (kind TEXT NOT NULL, files BLOB NOT NULL, value TEXT NOT NULL, bytes INTEGER NOT NULL, read INTEGER NOT NULL,"
+    " PRIMARY KEY (kind, files)) WITHOUT ROWID"]
 PRAGMAS = ("trusted_schema = off", "secure_delete = on", "temp_store = memory", "cell_size_check = on", "cache_size = -16384")
 HAS_SEVERAL = "key IN several"  # its key has several bodies
 IS_COUNTED = "(second IS NOT NULL AND initiator AND target AND others AND key NOT IN several)"  # all is known of it
 IS_ODD = "NOT " + IS_COUNTED
 KEY_BYTES, LONGEST_TEXT, LARGEST_BODY = 16, 2 ** 12, 2 ** 24
 ROWS_AT_ONCE, PATTERNS_AT_ONCE = 2 ** 14, 64
-DECODE, ENCODE = json.JSONDecoder().decode, json.JSONEncoder(ensure_ascii=False).encode  # made once: that takes as long as a use
+DECODE, ENCODE = json.JSONDecoder().raw_decode, json.JSONEncoder(ensure_ascii=False).encode  # made once: that takes as long as a use
 MALFORMED = (*UNREADABLE, AttributeError, KeyError, TypeError)
 
 
@@ -58,37 +66,126 @@ def files_of(digests):
 
 # ---- What a window has
 
-def bodies_in(files):
-    """The bodies of each key in files of a window, as lines, by the key's JSON text; and of each body the lines of its steps."""
-    found = {}
-    for data in files:
+class Window(NamedTuple):
+    """What was read of a window: the digests of its files, their bytes, texts, rows of bodies with their numbers from 1 on, and by key where its lines are."""
+    digests: list
+    size: int
+    texts: list
+    rows: list
+    places: dict
+
+
+def located(files):
+    """Yields the keys in open files, by digest, each as JSON text, with its lines, and where these are: the file, from which byte on, how many, and what stands for them."""
+    for digest, each in files.items():
+        data = contents(digest, each)
+        begin = data.find(KEY) + 1
         for key, lines in keys_in(data):
-            own, steps, is_chain = found.setdefault(key, {}), set(), False
-            for line in lines.split(b"\n"):
-                if line.startswith(b"[3,"):
-                    steps, is_chain = own.setdefault(line, set()), False
-                elif line.startswith(b"[4,"):
-                    is_chain = line == b'[4,0,"C"]'
-                elif is_chain and line:
-                    steps.add(line)
+            yield key, lines, (digest, begin, len(lines), hash_of(lines))
+            begin += len(lines)
+
+
+def hash_of(lines):
+    return hashlib.sha256(lines).digest()[:KEY_BYTES]
+
+
+def lines_at(each, begin, length, found):
+    """The lines of a key in an open file, which have to be those that were read there before."""
+    lines = os.pread(each.file.fileno(), length, begin)
+    if hash_of(lines) != found:
+        raise Fault("%s: %s" % (each.name, DAMAGED), REFUSED)
+    return lines
+
+
+def size_of(files):
+    """The bytes of open files, by digest."""
+    return sum(os.fstat(each.file.fileno()).st_size for each in files.values())
+
+
+def are_as_read(files, size):
+    """Whether open files, by digest, are as they were when they were read and had so many bytes, by their sizes and last lines."""
+    return size_of(files) == size and all(last_digest(each.file) == digest for digest, each in files.items())
+
+
+def check_read(files, size):
+    """Raises what is damaged of open files, by digest, unless they are as they were when they were read and had so many bytes."""
+    for item in () if are_as_read(files, size) else files.items():
+        contents(*item)
+
+
+@contextlib.contextmanager
+def opened_window(folder, part):
+    """The files of a window as inputs, by digest. Raises why it is left out, if it is."""
+    with opened_parts(folder, [part]) as (_, inputs):
+        folder.check(part)
+        yield {digest: each for (_, digest), each in inputs.items()}
+
+
+def read_window(folder, part):
+    """Reads a window."""
+    texts, rows, places, bodies = Texts(), [], {}, {}
+    with opened_window(folder, part) as files:
+        digests, size = list(files), size_of(files)
+        for key, lines, place in located(files):
+            places.setdefault(key, []).append(place)
+            add_bodies(lines, bodies.setdefault(key, {}))
+    stands = {key: key_of(key) for key in places}
+    for key, own in bodies.items():
+        rows += [(stands[key], *row_of(body, steps, texts)) for body, steps in (own or {b"": ()}).items()]
+    return Window(digests, size, texts.texts, rows, {stands[key]: own for key, own in places.items()})
+
+
+def places_in(folder, part, files, keys):
+    """Where the lines of keys are in a window, by key, if it has these files."""
+    found = {}
+    with folder.leaving_out(part), opened_window(folder, part) as opened:
+        for key, _, place in located(opened) if files_of(opened) == files else ():
+            if key_of(key) in keys:
+                found.setdefault(key_of(key), []).append(place)
     return found
+
+
+def add_bodies(lines, own):
+    """Adds the bodies in the lines of a key, as lines, each with the lines of its steps."""
+    steps, is_chain = set(), False
+    for line in lines.split(b"\n"):
+        if line.startswith(b"[3,"):
+            steps, is_chain = own.setdefault(line, set()), False
+        elif line.startswith(b"[4,"):
+            is_chain = line == b'[4,0,"C"]'
+        elif is_chain and line:
+            steps.add(line)
 
 
 def value_in(line):
     """The value whose canonical text a node's line has."""
-    return DECODE(DECODE(line.decode())[2])
+    return DECODE(DECODE(line.decode())[0][2])[0]
 
 
-def row_of(body, steps):
-    """The second, nanosecond and texts of a body that can be read; None and no texts of any other."""
+class Texts(dict):
+    """The numbers of texts from 1 on, by what they spell in JSON, as tuples. Many events have the same."""
+
+    def __init__(self):
+        super().__init__()
+        self.texts = []
+
+    def __missing__(self, found):
+        text = ENCODE(dict(found) if type(found[0]) is tuple else found) if found else "[]"
+        text.encode()
+        self.texts.append(text)
+        self[found] = len(self.texts)
+        return len(self.texts)
+
+
+def row_of(body, steps, texts):
+    """The second, nanosecond and numbers of texts of a body that can be read; None and no texts of any other."""
     with contextlib.suppress(MALFORMED):
         if sum(map(len, (body, *steps))) <= LARGEST_BODY:
             event = value_in(body)
-            found = traits(event, map(value_in, steps))
-            texts = [ENCODE(each) for each in (found.pop("initiator"), found.pop("target"), found)]
-            "".join(texts).encode()
-            return (*divmod(instant(event["eventTime"]), SECOND), *texts)
-    return None, 0, None, None, None
+            found = {kind: tuple(own) for kind, own in traits(event, map(value_in, steps)).items()}
+            numbers = [texts[found.pop("initiator")], texts[found.pop("target")], texts[tuple(found.items())]]
+            return (*divmod(instant(event["eventTime"]), SECOND), *numbers)
+    return None, 0, 0, 0, 0
 
 
 # ---- The index
@@ -139,24 +236,33 @@ class EventIndex:
                     if not stale:
                         yield site
                         return
-                while stale:
-                    progress.count(len(stale), "windows to read")
-                    with self.changing():
-                        self.put_some(folder, stale)
+                self.put_all(folder, stale, progress)
         raise Untrusted(CHANGED % folder.shown())
 
-    def put_some(self, folder, stale):
-        """Puts rows of the last ones of these windows in the place of those that they have, and takes the windows off the list."""
-        self.numbers, count = {}, 0  # another call may have removed texts
+    def put_all(self, folder, stale, progress):
+        """Puts what these windows have now in the place of what it has of them, some at a time."""
+        with contextlib.closing(made_or_left_out([folder], stale, functools.partial(read_window, folder), usable())) as windows:
+            batch = {}
+            for count, (part, each) in enumerate(windows, 1):
+                progress.count(len(stale) - count, "windows to read")
+                batch[part] = each
+                if count == len(stale) or sum(len(own.rows) for own in batch.values() if own) >= ROWS_AT_ONCE:
+                    with self.changing():
+                        self.put_some(folder, batch)
+                    batch = {}
+
+    def put_some(self, folder, batch):
+        """Puts the windows of a batch, by their names, of which None is left out."""
+        self.numbers = {}  # another call may have removed texts
         self.run("CREATE TEMP TABLE touched (key BLOB PRIMARY KEY) WITHOUT ROWID")
         self.run("CREATE TEMP TABLE freed (id INTEGER PRIMARY KEY)")
-        while stale and count < ROWS_AT_ONCE:
-            part = stale.pop()
+        for part, each in batch.items():
             self.remove(part)
-            with folder.leaving_out(part), opened_parts(folder, [part]) as (_, inputs):
-                count += self.put(part, {digest: each for (_, digest), each in inputs.items()})
+            if each and each.digests:
+                self.put(part, each)
         self.run("DELETE FROM several WHERE key IN touched")
         self.run("INSERT INTO several SELECT key FROM bodies WHERE key IN touched GROUP BY key HAVING count(*) > 1")
+        self.put_places(folder, batch)
         self.run("DELETE FROM texts WHERE id IN freed" + "".join(
             " AND NOT EXISTS (SELECT 1 FROM bodies WHERE %s = texts.id)" % column for column in COLUMNS))
         for name in ("touched", "freed"):
@@ -167,21 +273,29 @@ class EventIndex:
             self.run("INSERT OR IGNORE INTO touched SELECT key FROM bodies WHERE window = ?", (number,))
             for column in COLUMNS:
                 self.run("INSERT OR IGNORE INTO freed SELECT %s FROM bodies WHERE window = ?" % column, (number,))
+            self.run("DELETE FROM places WHERE window = ? AND key IN touched", (number,))
             self.run("DELETE FROM bodies WHERE window = ?", (number,))
             self.run("DELETE FROM windows WHERE id = ?", (number,))
 
-    def put(self, part, inputs):
-        """Puts the rows of a window's files, by digest, if there are any. Returns how many."""
-        rows = []
-        if inputs:
-            number = self.run("INSERT INTO windows (name, files) VALUES (?, ?)", (part, files_of(inputs))).lastrowid
-            for key, bodies in bodies_in(contents(*each) for each in inputs.items()).items():
-                for body, steps in (bodies or {b"": ()}).items():
-                    second, nanosecond, *texts = row_of(body, steps)
-                    rows.append((number, key_of(key), second, nanosecond, *map(self.number_of, texts)))
-        self.connection.executemany("INSERT INTO bodies VALUES (?, ?, ?, ?, ?, ?, ?)", rows)
-        self.connection.executemany("INSERT OR IGNORE INTO touched VALUES (?)", ((row[1],) for row in rows))
-        return len(rows)
+    def put(self, part, each):
+        """Puts the rows of a window."""
+        window = self.run("INSERT INTO windows (name, files, bytes) VALUES (?, ?, ?)", (part, files_of(each.digests), each.size)).lastrowid
+        numbers = [0, *map(self.number_of, each.texts)]
+        self.connection.executemany("INSERT INTO bodies VALUES (?, ?, ?, ?, ?, ?, ?)", (
+            (window, key, second, nanosecond, *(numbers[own] for own in texts)) for key, second, nanosecond, *texts in each.rows))
+        self.connection.executemany("INSERT OR IGNORE INTO touched VALUES (?)", ((row[0],) for row in each.rows))
+
+    def put_places(self, folder, batch):
+        """Puts where the lines of touched keys are that have several bodies now. Of windows that aren't in the batch these are looked for."""
+        self.run("DELETE FROM places WHERE key IN (SELECT key FROM touched EXCEPT SELECT key FROM several)")
+        lacking = collections.defaultdict(set)
+        for key, *window in self.run("SELECT key, id, name, files FROM bodies JOIN windows ON windows.id = window WHERE key IN touched AND key IN several"
+                                     " AND NOT EXISTS (SELECT 1 FROM places WHERE places.key = bodies.key AND places.window = bodies.window)"):
+            lacking[tuple(window)].add(key)
+        for (number, part, files), keys in lacking.items():
+            places = batch[part].places if part in batch else places_in(folder, part, files, keys)
+            self.connection.executemany("INSERT INTO places VALUES (?, ?, ?, ?, ?, ?)", (
+                (key, number, *place) for key in keys for place in places.get(key, ())))
 
     def number_of(self, text):
         """The number of a text, which it may get now; 0 of one that isn't kept."""
@@ -239,6 +353,22 @@ class EventIndex:
             found[key].add(part)
         return dict(found)
 
+    def places(self, keys):
+        """Where the lines of keys with several bodies are: by window and file their places there, by key."""
+        found = collections.defaultdict(dict)
+        for key, part, digest, *place in self.run("SELECT key, name, digest, begin, length, hash FROM places JOIN windows ON windows.id = window"):
+            if key in keys:
+                found[part, digest][key] = place
+        return dict(found)
+
+    def sizes(self):
+        """The bytes of each window's files, by its name."""
+        return dict(self.run("SELECT name, bytes FROM windows"))
+
+    def windows_with(self, key):
+        """The windows that a key is in."""
+        return [part for part, in self.run("SELECT DISTINCT name FROM bodies JOIN windows ON windows.id = window WHERE key = ?", (key,))]
+
     def counts(self, by):
         """How many events answer, of those that can be counted, by an hour or a day, or by what they have for a pattern of this kind first."""
         column, counts = by if by in COLUMNS else "second / %d" % LENGTHS[by] if by in LENGTHS else "others", collections.Counter()
@@ -250,3 +380,15 @@ class EventIndex:
                 found = json.loads(self.run("SELECT text FROM texts WHERE id = ?", (number,)).fetchone()[0])
                 counts[(found if by in COLUMNS else found[by])[0]] += count
         return counts
+
+    # What else is kept
+
+    def kept(self, kind):
+        """What is kept of that kind, by what stands for the files that it was made of: a text, their bytes, and when they were read."""
+        return {files: row for files, *row in self.run("SELECT files, value, bytes, read FROM kept WHERE kind = ?", (kind,))}
+
+    def keep(self, kind, rows, wanted):
+        """Keeps such rows, and of that kind none of files that aren't wanted."""
+        with self.changing():
+            self.connection.executemany("INSERT OR REPLACE INTO kept VALUES (?, ?, ?, ?, ?)", ((kind, files, *row) for files, row in rows.items()))
+            self.connection.executemany("DELETE FROM kept WHERE kind = ? AND files = ?", ((kind, files) for files in self.kept(kind).keys() - wanted))

@@ -10,8 +10,8 @@ import sqlite3
 import stat
 import urllib.parse
 
-from cadf_index import MALFORMED, EventIndex, Untrusted
-from cadf_site import INDEX
+from cadf_index import MALFORMED, EventIndex, Untrusted, files_of
+from cadf_site import INDEX, NOT_ITS_FAULT
 from cadf_toolkit import name_shown, open_descriptor, say
 
 NAME, JOURNAL = ".index", ".index-journal"
@@ -79,16 +79,55 @@ def cached(folder):
     return path, "rw"
 
 
-def planned(folder, make):
-    """What is made by an index of an open folder, and of what its `site` says at that moment. None: there is no index to be had."""
+PLACES = beside, cached
+
+
+def made_by(folder, make, places=PLACES):
+    """What is made by an index of an open folder, and of how it is opened. None: there is no index to be had, or none that serves."""
     folder.site()
-    for place in (beside, cached):
+    for place in places:
         path, mode = folder.path(NAME), "rw"
         try:
             path, mode = place(folder)
-            with connected(path, mode) as index, index.renewed(folder) as site:
-                return make(index, site)
+            with connected(path, mode) as index:
+                return make(index, mode)
         except (sqlite3.Error, OSError, Untrusted, *MALFORMED) as fault:
+            if isinstance(fault, OSError) and fault.errno in NOT_ITS_FAULT:
+                raise
             if str(fault) and mode == "rw":
                 say("%s: %s: it is passed over" % (name_shown(path), fault))
     return None
+
+
+def planned(folder, make):
+    """What is made by an index of an open folder, and of what its `site` says at that moment. None: there is no index to be had."""
+    def planned_by(index, _):
+        with index.renewed(folder) as site:
+            return make(index, site)
+    return made_by(folder, planned_by)
+
+
+# ---- What is kept of parts
+
+def kept(folder, kind, places=PLACES):
+    """What the index keeps of that kind of the folder's parts, as EventIndex.kept has it."""
+    found, wanted = {}, wanted_of(folder)
+
+    def read(index, mode):
+        found.update(index.kept(kind))
+        if mode == "ro" and wanted - found.keys():
+            raise Untrusted  # there may be more in one of the caller's own
+
+    made_by(folder, read, places)
+    return {files: row for files, row in found.items() if files in wanted}
+
+
+def keep(folder, kind, rows, places=PLACES):
+    """Keeps such rows of the folder's parts, if there is an index that can be written."""
+    if rows:
+        made_by(folder, lambda index, _: index.keep(kind, rows, wanted_of(folder)), places)
+
+
+def wanted_of(folder):
+    """What stands for the files of each part."""
+    return {files_of(files) for files in folder.site().parts().values()}

@@ -211,6 +211,12 @@ class Windows(Files):
             output.write(with_digest(data))
         return name
 
+    def put_layers(self, found):
+        """Yields the names of replica files of lists of lines by key, as JSON text: as few files as have each key once."""
+        for layer in range(max(map(len, found.values()), default=0)):
+            keys = sorted((key for key, lines in found.items() if len(lines) > layer), key=json.loads)
+            yield self.put([NODES[1:], *(found[key][layer] for key in keys)])
+
     def common_of(self, read):
         """The keys that are in several windows, by window."""
         found = {part.encode(): set() for part in read}

@@ -9,14 +9,19 @@ import json
 import os
 
 import cadf_index
-from cadf_index import KEY_BYTES, key_of
+from cadf_index import KEY_BYTES, check_read, key_of, lines_at
 from cadf_index_file import planned
-from cadf_keys import NODES, RULINGS, Windows, contents, keys_in, rulings_in, spelled
+from cadf_keys import NODES, RULINGS, Windows, at_once, contents, keys_in, rulings_in, spelled
 from cadf_site import CHANGED, SHARED, TRIES, opened_parts
 from cadf_toolkit import Fault, grouped, most_files, opened
 
 MOST_BYTES, MOST_FILES = 2 ** 22, 64  # that are shown at a call, of many windows
 OTHERS = 64  # files that are open beside those of a site
+
+
+def lines_of(each, places):
+    """Yields the lines at the places of keys in an open file, in the file's order."""
+    return (lines_at(each, *place) for place in sorted(places.values()))
 
 
 def keys_of(joined):
@@ -47,11 +52,8 @@ class Plan(Windows):
         self.several = {key: known[key] for key in several}
         self.apart = {key for key, parts in self.several.items() if len(parts) > 1}
         self.open = {part for parts in self.several.values() if len(parts) == 1 for part in parts}
-        self.parts = [*([SHARED] if several else []), *sorted({*self.keys, *self.parts_apart()})]
-
-    def parts_apart(self):
-        """The windows of the keys that are in several."""
-        return {part for key in self.apart for part in self.several[key]}
+        self.places, self.sizes = index.places(several), index.sizes()
+        self.parts = [*([SHARED] if several else []), *sorted({*self.keys, *(part for part, _ in self.places)})]
 
     def take(self, inputs):
         """Takes the files of its parts, which are open, and puts together what has to be. Returns whether all of them could be read."""
@@ -63,12 +65,14 @@ class Plan(Windows):
                 data = contents(*item)
                 place = data.find(RULINGS)
                 rulings += [self.put([data[place + 1:]])] if place >= 0 else []
-        for part in sorted(self.parts_apart()):
+        for part, files in self.inputs.items():
             with self.site_folder.leaving_out(part):
-                for item in self.inputs[part].items():
-                    found = {key: lines for key, lines in keys_in(contents(*item)) if key_of(key) in self.apart}
-                    texts.update(found)
-                    names += [self.put([NODES[1:], *found.values()])] if found else []
+                check_read(files, self.sizes[part])
+                for digest, each in files.items():
+                    places = self.places.get((part, digest), {})
+                    lines = list(lines_of(each, {key: place for key, place in places.items() if key in self.apart}))
+                    texts.update(key for each in lines for key, _ in keys_in(b"\n" + each))
+                    names += [self.put([NODES[1:], *lines])] if lines else []
         if not self.damaged.keys().isdisjoint(self.parts):
             return False
         self.common, self.rulings = frozenset(texts), self.joined(rulings)
@@ -109,8 +113,13 @@ class Plan(Windows):
             keys = None if self.keys[part] is None else keys_of(self.keys[part])
             names = []
             with self.site_folder.leaving_out(part):
-                for item in self.inputs[part].items():
-                    lines = [lines for key, lines in keys_in(contents(*item)) if self.may_answer(key, keys)]
+                for digest, each in self.inputs[part].items():
+                    if keys is not None and keys <= self.several.keys():
+                        places = self.places.get((part, digest), {})
+                        data = b"".join([b"\n", *lines_of(each, {key: places[key] for key in keys & places.keys()})])
+                    else:
+                        data = contents(digest, each)
+                    lines = [lines for key, lines in keys_in(data) if self.may_answer(key, keys)]
                     names += [self.put([NODES[1:], *lines])] if lines else []
             if part not in self.damaged:
                 yield from ((part, name) for name in names)
@@ -137,4 +146,56 @@ def plan_of(folder, *words):
             if now.lines == plan.site.lines and plan.take(inputs):
                 yield plan
                 return
+    raise Fault(CHANGED % folder.shown())
+
+
+class Picked(Windows):
+    """What a site has of those keys of events that have several bodies or are wanted, and all that is of no event, as `names` of replica files."""
+
+    def __init__(self, wanted, working, index, site):
+        super(Windows, self).__init__(working)
+        self.site, self.head, self.names = site, b"L %s\n" % site.log.encode(), []
+        self.places, self.sizes, self.keys, several = index.places(index.several()), index.sizes(), {}, index.several().keys()
+        for key in wanted - several:
+            for part in index.windows_with(key):
+                self.keys.setdefault(part, set()).add(key)
+
+    def take(self, folder):
+        """Takes what it needs of the folder's files, of one part after another. Returns whether they are those that the index names, and could be read."""
+        found, size, self.names = {}, 0, [self.put([])]
+        for part, digests in self.site.parts().items():
+            with folder.leaving_out(part), opened_parts(folder, [part]) as (_, inputs):
+                folder.check(part)
+                files = {digest: each for (_, digest), each in inputs.items()}
+                if list(files) != digests:
+                    return False
+                check_read(files, self.sizes.get(part))
+                for digest, each in files.items():
+                    if part == SHARED:
+                        self.names.append(self.put([contents(digest, each).split(b"\n", 2)[2]]))
+                    for lines in self.lines_in(part, digest, each):
+                        key, _ = next(keys_in(b"\n" + lines))
+                        found.setdefault(key, []).append(lines)
+                        size += len(lines)
+            if size > MOST_BYTES:
+                self.names += self.put_layers(found)
+                found, size = {}, 0
+        self.names += self.put_layers(found)
+        self.names = self.names if len(self.names) <= at_once() else self.joined(self.names)
+        return folder.damaged.keys().isdisjoint(self.site.parts())
+
+    def lines_in(self, part, digest, each):
+        """Yields the lines of each key in a window's file."""
+        yield from lines_of(each, self.places.get((part, digest), {}))
+        if part in self.keys:
+            yield from (lines for key, lines in keys_in(contents(digest, each)) if key_of(key) in self.keys[part])
+
+
+def picked(folder, keys, working):
+    """What an open folder has of these keys of events, and of those that have several bodies: Picked, or None where there is no index."""
+    wanted = {key_of(spelled(key)) for key in keys}
+    for _ in range(TRIES):
+        found = planned(folder, functools.partial(Picked, wanted, working))
+        if found is None or found.take(folder):
+            return found
     raise Fault(CHANGED % folder.shown())

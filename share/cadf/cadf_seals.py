@@ -13,16 +13,21 @@ import json
 import os
 import re
 import subprocess
+from typing import NamedTuple
 
+from cadf_index import are_as_read, files_of, size_of
+from cadf_index_file import keep, kept
 from cadf_link import Store
 from cadf_site import LARGEST, PART, UNITS, Folder, check_window, made_of_parts, order, other_unit, split, without_facts
-from cadf_toolkit import REFUSED, Fault, Progress, Refusal, another_program, as_input, cadf, log_name, other_log, with_advice, with_digest
+from cadf_times import SECOND, now
+from cadf_toolkit import REFUSED, Fault, Refusal, another_program, as_input, cadf, log_name, log_of, other_log, with_advice, with_digest
 from cadf_windows import is_part
 
 UNIT = re.compile(("B (%s)" % "|".join(UNITS)).encode())
 NAME_LINE = re.compile(("W (%s)" % PART).encode())
 ENTRY = re.compile((r"W (%s) ([1-9][0-9]{0,19}) ([0-9a-f]{64})" % PART).encode())
 SEAL = re.compile(rb"CADF-SEAL 1\nL [^\n]*\nN ([0-9]{1,20})\nR ([0-9a-f]{64})\nZ [0-9a-f]{64}\n")
+ROOTS = "root 1"  # the kind under which the index keeps them; another tree has another one
 NOTHING = 0, hashlib.sha256(b"").hexdigest().encode()  # count and root of no facts
 MOST = 2 ** 64  # above all counts
 LONGEST_LINE = 2 ** 14  # bytes: no right line has so many
@@ -109,19 +114,42 @@ def sealed(inputs):
     return int(found[1]), found[2]
 
 
-def sealed_folder(name, damaged):
-    """The seal of a folder, as it stood at one moment, without the parts of which a file is damaged, which are noted with why."""
-    with Folder(name, damaged) as folder, Progress() as progress:
-        index, count = folder.site(), itertools.count()
+class Root(NamedTuple):
+    """The root of a part: what stands for its files, count and root as a text, the bytes of the files, and when they were read whole."""
+    files: bytes
+    value: str
+    size: int
+    read: int
+
+    def found(self):
+        """The count and the root, as a seal has them."""
+        count, root = self.value.split(" ")
+        return int(count), root.encode()
+
+
+def sealed_folder(name, damaged, jobs=1, is_full=False):
+    """The seal of a folder, as it stood at one moment, without the parts of which a file is damaged, which are noted with why.
+
+    A root that is kept serves if the files are there as they were, by their sizes and last lines, unless all is to be read. `read` is when the oldest was
+    read whole.
+    """
+    with Folder(name, damaged) as folder:
+        index, known = folder.site(), {} if is_full else kept(folder, ROOTS)
         seal = SiteSeal(index.log, index.unit)
 
-        def sealed_part(part, files):
-            progress.count(next(count), "windows sealed")
+        def root_of(part, files):
+            key, at = files_of(files), now() // SECOND
+            if key in known and are_as_read(files, known[key][1]):
+                return Root(key, *known[key])
             for digest, file in files.items():
                 check_window(index, (part, digest), file)
-            return sealed(list(files.values())) if files else NOTHING
+            count, root = sealed(list(files.values())) if files else NOTHING
+            return Root(key, "%d %s" % (count, root.decode()), size_of(files), at)
 
-        seal.parts = made_of_parts([folder], None, sealed_part)
+        roots = made_of_parts([folder], None, root_of, jobs)
+        keep(folder, ROOTS, {each.files: each[1:] for each in roots.values() if each.files not in known or known[each.files] != list(each[1:])})
+        seal.parts = {part: each.found() for part, each in roots.items()}
+        seal.read = min((each.read * SECOND for each in roots.values()), default=None)
     return seal
 
 

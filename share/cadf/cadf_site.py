@@ -22,6 +22,7 @@ import stat
 import subprocess
 import tempfile
 
+from cadf_children import made_by_children
 from cadf_times import Bounds
 from cadf_toolkit import (CADF, DIFFERS, DONE, FAILED, IN_THE_WAY, LARGEST, LAST, MEMORY, NOT_ITS_FAULT, REFUSED, Fault, Input, Refusal, allow_inputs,
                           another_program, as_input, cadf, check_end, check_lock, grouped, last_digest, log_name, name_shown, new_lock, open_descriptor, opened_file,
@@ -243,6 +244,11 @@ class Folder:
             raise Fault("%s: not the file of a site: %s" % (self.shown(INDEX), LOST), REFUSED)
         return self.read[1]
 
+    def check(self, part):
+        """Raises why a part is left out, if it is."""
+        if part in (self.damaged or ()):
+            raise self.damaged[part]
+
     def is_of(self, part, fault):
         """Whether a fault is of a file of a part, which it names, and so says nothing of other parts."""
         return fault.status != MEMORY and str(fault).startswith(self.shown(part + ".").rstrip('"'))
@@ -321,37 +327,41 @@ def opened_parts(folder, parts):
     raise Fault(CHANGED % folder.shown())
 
 
-def made_of_parts(folders, parts, make):
+def made_or_left_out(folders, parts, make, jobs):
+    """Yields each of some parts with what is made of it, by so many children of this process; with None, if it is left out of one of the folders."""
+    with contextlib.closing(made_by_children(make, parts, jobs)) as results:
+        for part, found in zip(parts, results):
+            kept = None
+            with contextlib.ExitStack() as steps:
+                for folder in folders:
+                    steps.enter_context(folder.leaving_out(part))
+                if isinstance(found, Exception):
+                    raise found
+                kept = found
+            yield part, kept
+
+
+def made_of_parts(folders, parts, make, jobs=1):
     """What is made of the files of each part of some folders, or of some parts, as each stood at one moment; by part.
 
     `make` is given a part and, of each folder, its files as inputs, by digest. Those of one part are open at a time: a program
     that is started costs as much as there are open files. If a part changes meanwhile, it is made again, and no other.
+    So many children of this process share the work.
     """
     made = {}
 
     def made_of(part):
-        """The files of a part, and what is made of them; or the part, and why it can't be."""
-        try:
-            with contextlib.ExitStack() as files:
-                now, inputs = zip(*(files.enter_context(opened_parts(folder, [part])) for folder in folders))
-                for folder in folders:
-                    if part in (folder.damaged or ()):
-                        raise folder.damaged[part]
-                return files_of(part, now), make(part, *({digest: each for (_, digest), each in found.items()} for found in inputs))
-        except Fault as fault:
-            return part, Fault(str(fault), fault.status)
+        with contextlib.ExitStack() as files:
+            now, inputs = zip(*(files.enter_context(opened_parts(folder, [part])) for folder in folders))
+            for folder in folders:
+                folder.check(part)
+            return files_of(part, now), make(part, *({digest: each for (_, digest), each in found.items()} for found in inputs))
 
     for _ in range(TRIES):
         indexes = [folder.site() for folder in folders]
         names = dict.fromkeys(itertools.chain(*(index.parts() for index in indexes)) if parts is None else parts)
         keys = {part: files_of(part, indexes) for part in names if not any(part in (folder.damaged or ()) for folder in folders)}
-        for key, found in map(made_of, [part for part, key in keys.items() if key not in made]):
-            with contextlib.ExitStack() as steps:
-                for folder in folders:
-                    steps.enter_context(folder.leaving_out(key))
-                if isinstance(found, Fault):
-                    raise found
-                made[key] = found
+        made.update(found for _, found in made_or_left_out(folders, [part for part, key in keys.items() if key not in made], made_of, jobs) if found)
         if made.keys() >= set(keys.values()):
             return {part: made[key] for part, key in keys.items()}
     raise Fault(CHANGED % ", ".join(folder.shown() for folder in folders))

@@ -1,7 +1,7 @@
 """A site by its windows, as an exchange needs it: the digest of each, a summary of it, and what it has beyond another's.
 
 A site is a file, which is one window `all` or is split by a unit, or a folder. All that is written here is in private files
-that go with the call, but a folder's `.unions`, which keeps the digests of windows of several files.
+that go with the call. The digests of windows of several files are kept in a folder's index.
 """
 import contextlib
 import datetime
@@ -15,6 +15,8 @@ import subprocess
 import tempfile
 
 import cadf_site
+from cadf_index import files_of
+from cadf_index_file import beside, keep, kept
 from cadf_link import ENOUGH, Item, Store
 from cadf_logs import UNREADABLE, atoms
 from cadf_toolkit import (DIFFERS, LAST, LAST_LINE, Fault, Input, Refusal, another_program, cadf, check_end, last_digest, naming, opened_file, started_cadf,
@@ -22,8 +24,7 @@ from cadf_toolkit import (DIFFERS, LAST, LAST_LINE, Fault, Input, Refusal, anoth
 
 ALL, SHARED = "all", cadf_site.SHARED
 UNITS = {length: unit for unit, length in cadf_site.UNITS.items()}
-UNIONS = ".unions"
-UNION = re.compile(rb"U ([0-9a-f]{64}) ([0-9a-f]{64})\n")
+UNIONS = "union 1"  # the kind under which the index keeps them
 SECOND = b"CADF-REPLICA 2\n"
 DIGEST_BYTES, CELL_BYTES = 65, 81  # of a line
 NODE = re.compile(rb"\[([1-9][0-9]*),([01]),")
@@ -149,21 +150,18 @@ class FolderSite:
 
     def digests(self, _, since):
         """The digest of each part, from a window on."""
-        kept, known, found = kept_unions(self.folder), {}, {}
+        known, new, found = kept(self.folder, UNIONS, [beside]), {}, {}
         for part, files in self.folder.site().parts().items():
-            key = key_of(part, files)
-            if key in kept:
-                known[key] = kept[key]
             if not is_wanted(part, since):
                 continue
+            key = files_of(files)
             if len(files) > 1 and key not in known:
                 with contextlib.suppress(Damaged), self.opened(part) as inputs:
-                    key = key_of(part, [digest for _, digest in inputs])
-                    known[key] = union_digest(list(inputs.values()))
+                    key = files_of(digest for _, digest in inputs)
+                    known[key] = new[key] = union_digest(list(inputs.values())), 0, 0
             # A damaged part is equal to none, so it is asked for, and found to be damaged.
-            found[part] = files[0] if len(files) == 1 else known.get(key, secrets.token_hex(32))
-        if known != kept:
-            keep_unions(self.folder, known)
+            found[part] = files[0] if len(files) == 1 else known[key][0] if key in known else secrets.token_hex(32)
+        keep(self.folder, UNIONS, new, [beside])
         return found
 
     @contextlib.contextmanager
@@ -188,38 +186,6 @@ class FolderSite:
 
 def is_wanted(part, since):
     return part == SHARED or since is None or part >= since
-
-
-def key_of(part, files):
-    """What stands for the files of a part, by their digests."""
-    return hashlib.sha256(b"".join(b"F %s %s\n" % (part.encode(), each.encode()) for each in sorted(files))).hexdigest()
-
-
-def kept_unions(folder):
-    """The digests of unions that are kept in a folder, by what stands for their files; none of a file that is damaged or can't be read."""
-    try:
-        with folder.input(UNIONS).file as file:
-            data = file.read(cadf_site.LONGEST_INDEX)
-    except (Fault, OSError):
-        return {}
-    cut = data.rfind(b"Z ")
-    found = [UNION.fullmatch(line) for line in data[:cut].splitlines(True)]
-    if None in found or data != with_digest(data[:cut]):
-        return {}
-    return {each[1].decode(): each[2].decode() for each in found}
-
-
-def keep_unions(folder, unions):
-    """Keeps digests of unions. A folder that can't be written to keeps none."""
-    data = "".join("U %s %s\n" % item for item in sorted(unions.items())).encode()
-    working = UNIONS + ".new"
-    with contextlib.suppress(OSError):
-        with contextlib.suppress(FileNotFoundError):
-            os.unlink(working, dir_fd=folder.descriptor)  # what a call left that was killed, or found a full disk
-        with os.fdopen(folder.open(working, os.O_WRONLY | os.O_CREAT | os.O_EXCL), "wb") as file:
-            folder.give(file.fileno(), 0o666 & folder.found.st_mode)
-            file.write(with_digest(data))
-        os.rename(working, UNIONS, src_dir_fd=folder.descriptor, dst_dir_fd=folder.descriptor)
 
 
 def parts_of(name):

@@ -108,7 +108,7 @@ def test_each_site_gives_the_same_answer(cadf, tmp_path, seed):
 
 
 @pytest.mark.parametrize("right, wrong", [
-    ("(keys is None or found in keys) and ", ""), ("if key_of(key) in self.apart}", "if key_of(key) not in self.apart}"),
+    ("{key: places[key] for key in keys & places.keys()}", "{}"), ("if key in self.apart}", "if key not in self.apart}"),
     ("not self.open.isdisjoint(parts)", "False"), ("self.ruled_in.setdefault(*parts, []).append(key)", "pass"), ('"ruled" not in conflict and ', ""),
     ("rulings = windows.ruled_of(windows.common)", "rulings = []"), ("several |= keys_of(index.keys(part, cadf_index.HAS_SEVERAL))", "several |= keys_of(keys or b'')"),
     ("windows.facts), reverse=self.is_reversed)", "windows.facts))"), (" if self.counts is None else cadf_index.IS_ODD", ""),

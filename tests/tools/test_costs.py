@@ -139,8 +139,9 @@ def check_costs(path, cadf, tools, attack, before, names=tuple(CALLS)):
     after, size, sent = costs(path, cadf, tools, attack, names)
     starts = STARTS + OF_WINDOW * len(YEARS if attack == "a window for each event" else ())
     shares = {name: sent / (size / DAYS if name == "events of a day" else size) for name in names}  # of the bytes that the call reads
+    least = {name: size if name == "conflicts" else read for name, (_, read) in before.items()}  # that reads what has conflicts alone
     dear = {name: (before[name], found) for name, found in after.items()
-            if found[0] > before[name][0] + starts or found[1] > before[name][1] * (1 + SHARE * shares[name]) + 2 ** 16}
+            if found[0] > before[name][0] + starts or found[1] > least[name] * (1 + SHARE * shares[name]) + 2 ** 16}
     assert dear == {}, "honest %d bytes, sent %d" % (size, sent)
 
 

@@ -1,5 +1,6 @@
 """The index beside a site's windows: what it says beside plain Python over the site's facts, and what a wrong one does."""
 import collections
+import json
 import os
 import random
 import shutil
@@ -17,11 +18,13 @@ from tests.reference.times import time_of
 from tests.tools.asked import LOG, TRAITS, answers, event, facts, posed, question, traits
 from tests.tools.test_events import folder_of
 
+import cadf_children
 import cadf_index
 import cadf_index_file
 from cadf_keys import spelled
 from cadf_logs import instant, utc
-from cadf_site import Folder
+from cadf_site import Folder, file_name
+from cadf_toolkit import Fault
 
 UNITS = ("month", "day", "hour")
 KEPT = [each for each in TRAITS if each != "id"]
@@ -54,7 +57,9 @@ def rows_of(index):
     texts = dict(index.run("SELECT id, text FROM texts"))
     bodies = index.run("SELECT name, key, second, nanosecond, initiator, target, others FROM bodies JOIN windows ON windows.id = window").fetchall()
     assert set(texts) == {number for row in bodies for number in row[4:]} - {0}
-    return sorted((*row[:4], *(texts.get(number) for number in row[4:])) for row in bodies), sorted(index.several().items())
+    places = sorted(index.places(index.several()).items())
+    assert sum(len(own) for _, own in places) == index.run("SELECT count(*) FROM places").fetchone()[0]
+    return sorted((*row[:4], *(texts.get(number) for number in row[4:])) for row in bodies), sorted(index.several().items()), places
 
 
 def bodies_of(atoms):
@@ -139,6 +144,63 @@ def test_what_is_not_known_may_answer(tmp_path, monkeypatch):
             return True
 
         assert planned(folder, check)
+
+
+def test_places(tmp_path):
+    """Of each key with several bodies it says where its lines are, in all files of its windows and in no other; other bytes there are refused."""
+    chance = random.Random(11)
+    atoms = facts(chance, 60)
+    folder = folder_of(tmp_path / "site", atoms, "day", chance)
+    places = planned(folder, lambda index, _: index.places(index.several()))
+    found, names = collections.defaultdict(set), {(part, digest): file_name(part, digest) for part, own in windows_in(folder).items() for digest in own}
+    with Folder(str(folder)) as site:
+        for entry, own in places.items():
+            each = site.input(names[entry])
+            for key, place in own.items():
+                lines = cadf_index.lines_at(each, *place)
+                name, = keys_of(lines)
+                assert cadf_index.key_of(spelled(name)) == key
+                found[name].add(entry)
+                with pytest.raises(Fault):
+                    cadf_index.lines_at(each, place[0] + 1, *place[1:])
+            each.file.close()
+    every = collections.defaultdict(set)
+    for entry, name in names.items():
+        for key in keys_of((tmp_path / "site" / name).read_bytes()):
+            every[key].add(entry)
+    counts = collections.Counter(each["id"] for each in bodies_of(atoms))
+    assert found == {key: entries for key, entries in every.items() if counts[key] > 1} and found
+
+
+def keys_of(data):
+    """The keys of events in lines of a file."""
+    return [json.loads(line)[2] for line in data.split(b"\n") if line.startswith(b"[2,0,")]
+
+
+def test_children_make_the_same(tmp_path, monkeypatch):
+    """An index that several children of the process have made is the one that a single process makes; what one of them refuses is refused."""
+    atoms = facts(random.Random(12), 60)
+    folder = tmp_path / "site"
+    folder_of(folder, atoms, "hour", random.Random(12))
+    other = shutil.copytree(folder, tmp_path / "other")
+    assert len(windows_in(folder)) > 6
+    counts = []
+    monkeypatch.setattr(cadf_children, "FEWEST", 2)
+    fork = os.fork
+    monkeypatch.setattr(os, "fork", lambda: counts.append(1) or fork())
+    monkeypatch.setattr(cadf_index, "usable", lambda: 3)
+    rows = planned(folder)
+    assert len(counts) == 3
+    monkeypatch.setattr(cadf_index, "usable", lambda: 1)
+    assert planned(other) == rows and len(counts) == 3
+    (folder / ".index").unlink()
+    monkeypatch.setattr(cadf_index, "usable", lambda: 3)
+    part, digests = sorted(windows_in(folder).items())[-1]
+    with open(folder / file_name(part, digests[0]), "r+b") as file:
+        file.seek(-70, os.SEEK_END)
+        file.write(b"#")
+    with pytest.raises(Fault, match=part):
+        planned(folder)
 
 
 # ---- How it is kept

@@ -6,6 +6,7 @@ import json
 import os
 import resource
 import signal
+import sqlite3
 import subprocess
 import sys
 
@@ -22,6 +23,7 @@ from tests.tools.copies import is_caught
 from tests.tools.test_site_folders import DAYS, EVENT, TOOLS, Site, atoms_of, contents, index_of, with_digest
 
 sys.path.insert(0, os.path.join(TOP, "share", "cadf"))
+import cadf_logs
 import cadf_seals
 import cadf_toolkit
 
@@ -395,6 +397,70 @@ def test_a_command_that_writes_no_seal(seals, said):
     assert seals.run("site", env=dict(seals.environment, CADF=odd)) == (3, b"", ["cadf-seal: %s: what it writes is no seal" % odd])
 
 
+# ---- Roots that are kept
+
+def test_roots_are_kept(seals):
+    """No command is started for a window whose root is kept; one with another file is sealed anew."""
+    seals.site.takes(contents(0, 2, name="n"))
+    seal = seals.writes("site")
+    stopped = {"env": dict(seals.environment, CADF="false")}
+    assert seals.writes("site", **stopped) == seals.writes("--jobs", "2", "site", **stopped) == seal
+    assert seals.run("--full", "site", **stopped)[0] in (1, 3)
+    more = dict(contents(), events=[dict(EVENT, id="late", eventTime=DAYS[0])])
+    seals.site.takes(more)
+    assert seals.run("site", **stopped)[0] in (1, 3)
+    assert seals.writes("--jobs", "1", "site") == seals.writes("--full", "site") == site_seal_of("g", atoms_of(contents(0, 2, name="n"), more), "day")
+    os.unlink(seals.site.folder / ".index")
+    assert seals.run("site", **stopped)[0] in (1, 3)
+
+
+@pytest.mark.parametrize("change", ["last line", "size", "gone"])
+def test_a_root_vouches_for_no_file_that_is_another(seals, change):
+    """A file whose size or last line is another one is read whole, and refused."""
+    seals.site.takes(contents(0, 2, name="n"))
+    seals.writes("site")
+    path = seals.files("2024-02-29")[0]
+    with open(path, "rb") as file:
+        data = file.read()
+    if change == "gone":
+        os.unlink(path)
+    else:
+        with open(path, "wb") as file:
+            file.write(data[:100] + data[101:] if change == "size" else data[:-3] + b"#" + data[-2:])
+    status, output, said = seals.run("site")
+    assert output == b"" and status in (1, 3) and len(said) == 1 and os.path.basename(path) in said[0]
+
+
+def test_all_is_read_if_asked(seals):
+    """A file that rotted in the middle is found by --full alone; how long ago all was read is told after a day."""
+    seals.site.takes(contents(0, 2, name="n"))
+    seal = seals.writes("site")
+    path = seals.files("2024-02-29")[0]
+    with open(path, "r+b") as file:
+        file.seek(100)
+        file.write(b"#")
+    assert seals.writes("site") == seal
+    with sqlite3.connect(seals.site.folder / ".index") as connection:
+        then, = set(connection.execute("SELECT min(read) FROM kept").fetchone())
+        connection.execute("UPDATE kept SET read = read - 86400")
+    connection.close()
+    day = cadf_logs.utc((then - 86400) * 10 ** 9)
+    status, output, said = seals.run("site")
+    assert (status, output) == (0, seal) and said == ["cadf-seal: the oldest of its files was read whole at %s; since then its size and last line were looked at:"
+                                                      " --full reads all" % day]
+    status, output, said = seals.run("--full", "site")
+    assert (status, output, len(said)) == (1, b"", 1) and os.path.basename(path) in said[0]
+
+
+def test_roots_of_another_tree_serve_nobody(seals):
+    seals.site.takes(contents(0, 2))
+    seals.writes("site")
+    with sqlite3.connect(seals.site.folder / ".index") as connection:
+        assert connection.execute("UPDATE kept SET kind = 'root 2', value = '7 ' || substr(value, 3)").rowcount > 0
+    connection.close()
+    assert seals.writes("site") == site_seal_of("g", atoms_of(contents(0, 2)), "day")
+
+
 # ---- Copies that do wrong
 
 @pytest.mark.parametrize("check, right, wrong", [
@@ -409,6 +475,9 @@ def test_a_command_that_writes_no_seal(seals, said):
     (test_compare_of_as_many_facts, "or (DIFFERS if differing else DONE)", "or DONE"),
     (test_compare_of_others, "if now.log != then.log:", "if False:"),
     (test_compare_of_others, "if now.unit != then.unit:", "if False:"),
+    (functools.partial(test_a_root_vouches_for_no_file_that_is_another, change="size"), "and size == known[key][1] ", ""),
+    (functools.partial(test_a_root_vouches_for_no_file_that_is_another, change="last line"), "== digest for digest, each in files.items())", "for each in files)"),
+    (test_all_is_read_if_asked, "< cadf_times.now() - DAY", "< 0"),
     (test_a_line_without_an_end_takes_no_memory, "file.readline(min(LONGEST_LINE, left))", "file.readline(left)"),
 ])
 def test_a_wrong_version_is_caught(tmp_path, check, right, wrong):

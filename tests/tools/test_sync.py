@@ -869,7 +869,7 @@ def test_a_folder_that_is_not_there_is_made(folders):
 
 
 def test_windows_of_several_files_are_compared_by_their_union(folders):
-    """The digest of a union is kept beside the files, so equal windows are not read again."""
+    """The digest of a union is kept in the folder's index, so equal windows are not read again; an index that isn't trusted serves nobody."""
     folders.put("here/", facts(1, 29, 57))
     folders.put("there/", facts(1))
     for key in (29, 57):
@@ -877,11 +877,14 @@ def test_windows_of_several_files_are_compared_by_their_union(folders):
         folders.takes("there/", ["%d.cadf" % key])
     assert len(folders.files("there/")) > len(folders.files("here/"))
     assert folders.equal("here/", "there/")["windows_differed"] == 0
-    unions = (folders.path / "there" / ".unions").read_bytes()
+    index = folders.path / "there" / ".index"
+    assert index.is_file()
+    own, folders.cadf = folders.cadf, "false"
     assert folders.equal("here/", "there/")["windows_differed"] == 0
-    assert (folders.path / "there" / ".unions").read_bytes() == unions
-    (folders.path / "there" / ".unions").write_bytes(unions.replace(b"U ", b"U 0", 1))
-    assert folders.equal("here/", "there/")["windows_differed"] == 0
+    folders.cadf = own
+    index.chmod(0o666)
+    answer = folders.sync("here/", "there/")
+    assert answer.status == 0 and b"it is passed over\n" in answer.error
 
 
 def test_another_program_has_no_union_of_files(folders):
@@ -1106,19 +1109,6 @@ def test_a_push_that_is_refused_says_what_was_pulled(folders):
     assert folders.holds("here/") == facts(1, 2, 3, 4) and folders.holds("there/") == facts(4)
 
 
-def test_digests_that_cannot_be_kept_pile_up_nothing(tmp_path, monkeypatch):
-    """Calls that end before the rename, as by a kill or on a full disk, leave one file, which goes with the next call."""
-    unions = {"0" * 64: "1" * 64}
-    with cadf_site.Folder(str(tmp_path)) as folder:
-        with monkeypatch.context() as machine:
-            machine.setattr(os, "rename", lambda *_, **__: os.open(str(tmp_path / "none"), os.O_RDONLY))
-            for _ in range(3):
-                cadf_windows.keep_unions(folder, unions)
-        assert len(os.listdir(tmp_path)) == 1
-        cadf_windows.keep_unions(folder, unions)
-        assert os.listdir(tmp_path) == [".unions"] and cadf_windows.kept_unions(folder) == unions
-
-
 @others.needed
 def test_each_member_of_a_group_exchanges(cadf, tools):
     """What one member's run keeps in a folder serves the others; where they can't read it, it stops none of them."""
@@ -1132,15 +1122,18 @@ def test_each_member_of_a_group_exchanges(cadf, tools):
             for each in (own.path / name, *(own.path / name).iterdir()):
                 os.chown(each, others.CALLER, others.GROUP)
                 each.chmod(0o660 if each.is_file() else 0o2770)
+        said = [b""]
         for user in (others.CALLER, others.OTHER, None, others.CALLER):
-            unions = own.path / "here" / ".unions"
-            if user is None:  # as a run by root, or by an earlier release, left it
-                unions.chmod(0o600)
-                os.chown(unions, others.SENDER, others.SENDER)
+            index = own.path / "here" / ".index"
+            if user is None:  # as a run by root left it
+                index.chmod(0o600)
+                os.chown(index, others.SENDER, others.SENDER)
+                said = [b"cadf-sync: here/.index: others could have written it: its owner or its mode isn't that of the site: it is passed over"] * 2 + [b""]
                 continue
             program, *words = others.as_user(user, others.GROUP, others.PYTHON, os.path.join(own.tools, "cadf-sync"), "--quiet", "here/", "there/")
-            assert ended(program, words, env=own.environment(), cwd=own.path) == (0, b"", b"")
-            found = unions.stat()
+            status, output, error = ended(program, words, env=own.environment(), cwd=own.path)
+            assert (status, output, error.split(b"\n")) == (0, b"", said)
+            found = index.stat()
             assert (found.st_mode & 0o777, found.st_gid) == (0o660, others.GROUP) or found.st_uid == others.SENDER
 
 

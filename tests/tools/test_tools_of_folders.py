@@ -2,6 +2,7 @@
 import functools
 import json
 import os
+import random
 import re
 import resource
 import shlex
@@ -11,7 +12,13 @@ import pytest
 
 from tests import TOP
 from tests.machine import ended
+from tests.reference.events import document
+from tests.reference.replica_files import file_of
+from tests.reference.rulings import digest_of_value
+from tests.reference.shown_texts import values_by_key
 from tests.tools.copies import is_caught
+from tests.tools.test_events import LOG, folder_of
+from tests.tools.test_events import facts as facts_of_log
 from tests.tools.test_site_folders import DAYS, EVENT, TOOLS, Site, atoms_of, contents, index_of, with_digest
 
 # A command that tells which files it is given.
@@ -307,6 +314,42 @@ def test_a_key_of_two_windows_is_open(sites):
     assert sites.run("conflicts", "north")[0] == 0 and sites.run("conflicts", file, "north")[0] == 5
 
 
+@pytest.mark.parametrize("seed, unit", enumerate(["month", "day", "hour"]))
+def test_conflicts_of_a_folder_are_those_of_its_file(sites, seed, unit):
+    """By the index, and where none is to be had. A window that has no conflict isn't read, and one of another site is as its file."""
+    chance = random.Random(seed)
+    atoms = facts_of_log(chance) | document({"id": LOG, "events": [dict(EVENT, id="alone", eventTime="2024-05-05T12:00:00Z")]})[1]
+    folder_of(sites.path / "site", atoms, unit, chance)
+    (sites.path / "file").write_bytes(file_of(LOG, atoms))
+    listed = sites.run("conflicts", "--values", "file")
+    assert listed[0] == 5 and sites.run("conflicts", "--values", "site") == listed
+    held = sites.run("conflicts", "file", "file")
+    assert held == tuple(each.replace("in site", "in file") if type(each) is str else each for each in sites.run("conflicts", "site/", "site"))
+    lines = ["%s %s %d %s\n" % (letter, json.dumps(name), place, digest_of_value(value)) for (letter, name), values in values_by_key(atoms).items()
+             for place, value in enumerate(sorted(values, key=str.encode), 1)]
+    for choices in (lines, *([line] for line in lines[::3])):
+        (sites.path / "choices").write_text("".join(choices))
+        rule = ["conflicts", "--rule", "choices", *["--again"] * (len(choices) > 1)]
+        assert sites.run(*rule, "site") == sites.run(*rule, "file")
+    alone, = (each for each in (sites.path / "site").iterdir() if b'"alone"' in each.read_bytes() and each.name.endswith(".cadf"))
+    alone.write_bytes(b"")
+    assert sites.run("conflicts", "--values", "site") == listed
+    (sites.path / "site" / ".index").unlink()
+    status, output, said = sites.run("conflicts", "--values", "site")
+    assert status == 1 and output == "" and alone.name in said[-1]
+
+
+def test_agree_keeps_digests_of_windows(sites):
+    """Windows of other files with the same facts are read once."""
+    sites.north.takes(contents(0, 2, 3, name="n"))
+    for number in (0, 2, 3):
+        sites.south.takes(contents(number, name="n"))
+    assert sites.run("agree", "north", "south") == (0, "", []) and sites.read()
+    assert sites.run("agree", "north", "south") == (0, "", []) and not sites.read()
+    sites.south.takes(contents(4))
+    assert sites.run("agree", "north", "south")[0] == 5 and len(sites.read()) == 1
+
+
 def test_report_of_a_folder_is_that_of_its_file(sites):
     sites.north.takes(told_on_two_days(0))
     sites.north.takes(told_on_two_days(2))
@@ -316,7 +359,7 @@ def test_report_of_a_folder_is_that_of_its_file(sites):
     assert sites.run(*of_range, "north/", file) == sites.run(*of_range, file, "north/") == sites.run(*of_range, file, file)
 
 
-@pytest.mark.parametrize("words", [["conflicts"], ["events"], ["report", "--from", "2024-03-01"]])
+@pytest.mark.parametrize("words", [["events"], ["report", "--from", "2024-03-01"]])
 @pytest.mark.parametrize("key", ['"x', ""])
 def test_right_digests_make_no_right_lines(sites, words, key):
     """A folder that somebody sent has a key that doesn't end with its line. cadf says what is wrong with the file."""
@@ -373,12 +416,13 @@ def test_spool_keeps_what_begins_many_windows(sites):
 
 
 @pytest.mark.parametrize("check, right, wrong", [
-    (test_agree_reads_windows_that_differ, "made_of_parts([first.site, second.site], None,", "made_of_parts([first.site, second.site], sorted(first.index.parts())[1:],"),
-    (test_agree_reads_windows_that_differ, "if own.keys() != others.keys():", "if True:"),
+    (test_agree_reads_windows_that_differ, "made_of_parts([each.site for each in sides], None,", "made_of_parts([each.site for each in sides], sorted(first.index.parts())[1:],"),
+    (test_agree_reads_windows_that_differ, "if keys[0] == keys[1] or len(told) == 2", "if len(told) == 2"),
     (test_agree_of_windows_of_several_files, "[*site.inputs, sketch.input], len(site.inputs))", "[site.inputs[0], sketch.input])"),
+    (test_agree_keeps_digests_of_windows, "len(told) == 2 and told[0] == told[1]", "False"),
     (test_which_judges_each_file, "if found != [entry]:", "if False:"),
     (test_which_names_all_that_is_damaged, "        return Fault(\"%s: not there: %s\"", "        raise Fault(\"%s: not there: %s\""),
-    (test_a_key_of_two_windows_is_open, "for fact in windows.facts:", "for fact in ():"),
+    (test_a_key_of_two_windows_is_open, "range(max(map(len, found.values()), default=0))", "range(1)"),
     (test_a_damaged_window_lets_what_arrives_wait, "FAILED if fault.status == REFUSED else fault.status", "fault.status"),
     (test_spool_takes_into_a_folder, "if cadf_site.is_folder(self.site):", "if False:"),
 ])
