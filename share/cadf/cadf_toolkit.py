@@ -13,6 +13,7 @@ import json
 import os
 import re
 import resource
+import select
 import shutil
 import signal
 import stat
@@ -870,6 +871,13 @@ def prepare_streams():
         os.open(os.devnull, os.O_WRONLY)  # what reads it fails
 
 
+def is_unread():
+    """Whether standard output is a pipe that nobody reads any more."""
+    looking = select.poll()
+    looking.register(1, 0)
+    return any(found & select.POLLERR for _, found in looking.poll(0))
+
+
 def ended(run, *words):
     """Runs a tool's work. Returns the status; why the call ended is said on standard error.
 
@@ -896,6 +904,8 @@ def ended(run, *words):
         status, said = fault.status, str(fault)
     except OSError as fault:
         status, said = (MEMORY, OUT_OF_MEMORY) if fault.errno == errno.ENOMEM else (FAILED, why(fault))
+        if isinstance(fault, BrokenPipeError) and is_unread():
+            return status  # who has read enough, as `head`, needn't be told
     except MemoryError:
         status, said = MEMORY, OUT_OF_MEMORY
     say(said)

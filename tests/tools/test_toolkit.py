@@ -421,3 +421,15 @@ def test_why_a_file_cannot_be_read(kit, tmp_path, monkeypatch):
             monkeypatch.setattr(kit.Input, "path", lambda self, path=path: path)
             with pytest.raises(kit.Fault, match="^file: %s$" % said):
                 kit.Refusal("read fault", kit.FAILED, 1, [found])
+
+
+@pytest.mark.parametrize("tool", sorted(name for name in os.listdir(os.path.join(TOP, "tools")) if name.startswith("cadf-")))
+def test_who_has_read_enough_is_told_nothing(tool):
+    """As `head`, which ends before the tool does. What can't be written for another reason is told."""
+    for output, said in ((None, b""), ("/dev/full", b"standard output: write fault: No space left on device\n")):
+        reading, writing = os.pipe() if output is None else (None, os.open(output, os.O_WRONLY))
+        if reading is not None:
+            os.close(reading)
+        done = subprocess.run([os.path.join(TOP, "tools", tool), "--help"], stdout=writing, stderr=subprocess.PIPE)
+        os.close(writing)
+        assert done.returncode == 3 and done.stderr == (tool.encode() + b": " + said if said else b"")
