@@ -36,7 +36,7 @@ class Lines:
             yield canonical({by: value, "count": count, **({"contradicted": bodies} if bodies else {})}).encode() + b"\n"
 
     def end(self):
-        pass
+        """Says what there is to say of all."""
 
 
 class Table(Lines):

@@ -27,14 +27,18 @@ def check(found, owners, mode):
         raise Untrusted("others could have written it: its owner or its mode isn't that of the site")
 
 
+def uri_of(path, mode):
+    """How SQLite is told to open a file that is there to read and write (`rw`) or to read (`ro`)."""
+    return "file:%s?mode=%s" % (urllib.parse.quote(os.fsencode(os.path.abspath(path))), mode)
+
+
 @contextlib.contextmanager
 def connected(path, mode):
     """The index of that path, opened to read and write (`rw`) or to read (`ro`)."""
     with open(path, "rb", opener=lambda name, flags: os.open(name, flags | os.O_NOFOLLOW | os.O_NONBLOCK)) as file:
         if file.read(100)[18:20] not in (b"", b"\1\1"):
             raise Untrusted("it is no index, or has a log beside it")
-    uri = "file:%s?mode=%s" % (urllib.parse.quote(os.fsencode(os.path.abspath(path))), mode)
-    with contextlib.closing(sqlite3.connect(uri, uri=True, timeout=PATIENCE, isolation_level=None)) as connection:
+    with contextlib.closing(sqlite3.connect(uri_of(path, mode), uri=True, timeout=PATIENCE, isolation_level=None)) as connection:
         yield EventIndex(connection)
 
 

@@ -26,7 +26,8 @@ LONG_OPTION = re.compile(r"(?<![\w-])--[a-z][a-z-]*")
 # What is installed beside the tools, the pages of docs/ and the examples that have a folder.
 PLACES = """
 bin/cadf share/man/man1/cadf.1 share/bash-completion/completions/cadf share/zsh/site-functions/_cadf
-share/cadf/cadf_budget.py share/cadf/cadf_children.py share/cadf/cadf_formats.py share/cadf/cadf_index.py share/cadf/cadf_index_file.py
+share/cadf/cadf_budget.py share/cadf/cadf_children.py share/cadf/cadf_database.py share/cadf/cadf_formats.py
+share/cadf/cadf_index.py share/cadf/cadf_index_file.py
 share/cadf/cadf_keys.py share/cadf/cadf_ledgers.py share/cadf/cadf_lengths.py share/cadf/cadf_link.py share/cadf/cadf_logs.py
 share/cadf/cadf_metrics.py share/cadf/cadf_plan.py share/cadf/cadf_question.py share/cadf/cadf_repair.py share/cadf/cadf_rest.py
 share/cadf/cadf_seals.py share/cadf/cadf_site.py share/cadf/cadf_spool.py share/cadf/cadf_state.py share/cadf/cadf_times.py
