@@ -1,5 +1,4 @@
 """What the tools read of the texts that cadf writes: atoms, a value after another, and the instants of events."""
-import argparse
 import codecs
 import datetime
 import json
@@ -138,14 +137,3 @@ class Text:
         yield
         while self.take_mark() == ",":
             yield
-
-
-def typed_instant(text):
-    """The instant that a person typed: one of the years from 1 on."""
-    at = instant(text)
-    try:
-        if utc(at) >= "0001":
-            return at
-    except (TypeError, ValueError, OverflowError):
-        pass
-    raise argparse.ArgumentTypeError("not a time: %s" % json.dumps(text))

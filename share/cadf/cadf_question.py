@@ -6,16 +6,19 @@ stands for any characters. What an event has for a pattern to match are its trai
 import argparse
 import json
 import re
+import shlex
 from typing import NamedTuple
 
-from cadf_logs import instant, utc
-from cadf_times import SECOND, STEPS
+from cadf_logs import Range, instant, utc
+from cadf_times import SECOND, STEPS, time_typed
 
 ROLES = ("initiator", "target", "observer")
 TRAITS = ("action", "outcome", "type", *ROLES, "via")
 LENGTHS = {"hour": 3600, "day": 86400}  # in seconds
 COUNTED = (*LENGTHS, "action", "outcome", "type", *ROLES)
 FAILED = ("failure", "failure/*")
+KINDS = {"id": "identifier", "initiator": "initiator, by identifier or name", "target": "target, by identifier or name", "action": "action",
+         "outcome": "outcome", "type": "event type", "observer": "observer, by identifier or name", "via": "reporter in a chain, by identifier or name"}
 DURATION = re.compile("([0-9]{1,6})(%s)" % "|".join(STEPS))
 
 
@@ -42,6 +45,9 @@ class Pattern:
     def is_plain(self):
         return len(self.parts) == 1
 
+    def text(self):
+        return "*".join(self.parts)
+
     def longest(self):
         """The longest of the texts that stand in whatever it matches, as JSON spells it."""
         return spelled(max(self.parts, key=len))
@@ -51,6 +57,9 @@ class Member(NamedTuple):
     """The names on the way to a member of an event, and what its value has to match."""
     names: tuple
     pattern: Pattern
+
+    def text(self):
+        return "".join("/" + name.replace("~", "~0").replace("/", "~1") for name in self.names) + "=" + self.pattern.text()
 
     def matches(self, value):
         for name in self.names:
@@ -110,13 +119,20 @@ class Question:
     """What is asked: patterns by the names of traits and `id`, texts, members, how late the last report is, and from when until when."""
 
     def __init__(self, limits, patterns=None, grep=(), members=(), late=None):
-        self.limits, self.patterns = limits, {kind: found for kind, found in (patterns or {}).items() if found}
+        self.limits, self.patterns, self.texts = limits, {kind: found for kind, found in (patterns or {}).items() if found}, grep
         self.grep, self.members, self.late = [spelled(text).encode() for text in grep], {}, late
         for member in members:
             self.members.setdefault(member.names, []).append(member)
         self.is_all = not (self.patterns or grep or members or late is not None)
         self.has_ids = all(pattern.is_plain() for pattern in self.patterns.get("id", ()))  # whole ones, if any
         self.is_indexed = self.has_ids and not (grep or members or late is not None)  # an index can answer it
+
+    def words(self):
+        """Spells what is asked beside times, as words of a command line."""
+        asked_of = {**self.patterns, "match": [each for group in self.members.values() for each in group]}
+        found = [(kind, each.text()) for kind, own in asked_of.items() for each in own] + [("grep", text) for text in self.texts]
+        found += [("late", "%ds" % (self.late // SECOND))] if self.late is not None else []
+        return shlex.join(word for kind, text in found for word in ("--" + kind, text))
 
     def has_key(self, identifier):
         return any_matches(self.patterns.get("id"), [identifier])
@@ -172,3 +188,24 @@ def duration_typed(text):
     if not found:
         raise argparse.ArgumentTypeError("not a duration, as 90s, 5min, 1h, 7d or 2w")
     return int(found[1]) * STEPS[found[2]]
+
+
+def add_question(parser):
+    """Adds the options by which something is asked of events."""
+    parser.add_argument("--since", metavar="TIME", type=time_typed, help="only events from that instant on")
+    parser.add_argument("--until", metavar="TIME", type=time_typed, help="only events before that instant")
+    for kind, said in KINDS.items():
+        parser.add_argument("--" + kind, metavar="PATTERN", type=pattern_typed, action="append", default=[], help="only events with this " + said)
+    parser.add_argument("--failed", action="store_true", help="the same as --outcome failure --outcome 'failure/*'")
+    parser.add_argument("--late", metavar="DURATION", type=duration_typed, help="only events last reported so long after their time, as 90s, 5min, 1h, 7d or 2w")
+    parser.add_argument("--grep", metavar="TEXT", type=text_typed, action="append", default=[], help="only events whose line has this text, as JSON spells it")
+    parser.add_argument("--match", metavar="/MEMBER=PATTERN", type=member_typed, action="append", default=[],
+                        help="only events whose member at this JSON pointer is such a text, or has such a JSON text")
+
+
+def asked(options):
+    """The question that the options ask."""
+    patterns = {kind: getattr(options, kind) for kind in KINDS}
+    if options.failed:
+        patterns["outcome"] = [*patterns["outcome"], *map(Pattern, FAILED)]
+    return Question(Range(options.since, options.until), patterns, options.grep, options.match, options.late)

@@ -149,7 +149,7 @@ def test_files_of_which_the_list_says_which_values_they_hold(sites):
 def test_a_page_says_what_it_lacks(sites):
     sites.north.takes(contents(0, 2))
     changed(file_of(sites.north, FIRST))
-    for words, wanted in ((), 1), (("--from", SECOND), 5):
+    for words, wanted in ((), 1), (("--since", SECOND), 5):
         status, output, lines = sites.run("report", *words, "north/")
         assert status == wanted and left_out("report", FIRST, lines) and "Left out, as damaged: %s.</p>" % FIRST in output
 

@@ -162,7 +162,7 @@ def test_a_damaged_window_is_named_where_it_is_not_shown(cadf, tmp_path, place):
     assert answer.status == 5 and answer.output == lines and all(map(bytes.startswith, answer.error.splitlines(), said)), answer
 
 
-@pytest.mark.parametrize("words", [["cadf-conflicts", "--values"], ["cadf-report"], ["cadf-report", "--from", "2024-03-01", "--until", "2024-03-02"]])
+@pytest.mark.parametrize("words", [["cadf-conflicts", "--values"], ["cadf-report"], ["cadf-report", "--since", "2024-03-01", "--until", "2024-03-02"]])
 def test_lists_and_pages_of_a_folder_are_those_of_a_file(cadf, tmp_path, words):
     chance = random.Random(2)
     atoms = facts(chance)
@@ -176,6 +176,6 @@ def test_a_page_of_a_range_has_a_body_of_another_window(cadf, tmp_path):
     """The page of one day says that another body contradicts, which is of another day."""
     events = [dict(EVENT, id="e", eventTime=time) for time in TIMES[4:7:2]]
     folder = folder_of(tmp_path / "folder", document({"id": LOG, "events": events})[1], "day", random.Random(0))
-    answer = ended(os.path.join(TOP, "tools", "cadf-report"), ["--from", "2024-03-01", "--until", "2024-03-02", folder],
+    answer = ended(os.path.join(TOP, "tools", "cadf-report"), ["--since", "2024-03-01", "--until", "2024-03-02", folder],
                    env=dict(os.environ, CADF=cadf))
     assert answer.status == 0 and TIMES[6].encode() in answer.output

@@ -5,12 +5,14 @@
 import base64
 import fcntl
 import hashlib
+import html
 import io
 import json
 import os
 import pty
 import re
 import resource
+import shlex
 import signal
 import struct
 import subprocess
@@ -178,7 +180,7 @@ def test_sameness(reports):
     assert len({reports.page(*way) for way in ways}) == 1
     against = [("--against", "half0.json", *way) for way in ways]
     assert len({reports.page(*way) for way in against}) == 1
-    ranges = [("--from", "2024-03-01 11:00", "x"), ("--from", "2024-03-01T13:00:00.000+02:00", "x")]
+    ranges = [("--since", "2024-03-01 11:00", "x"), ("--since", "2024-03-01T13:00:00.000+02:00", "x")]
     assert len({reports.page(*way[:2], "both") for way in ranges}) == 1
     page = reports.page("hostile.json")
     assert os.getcwd().encode() not in page
@@ -226,7 +228,7 @@ def test_digests(reports):
 
 def test_range(reports):
     """A range has the events from an instant until before another, and its digest is that of their text."""
-    page = Data(reports.page("--from", "2024-03-01", "--until", "2024-03-02", "days.json"))
+    page = Data(reports.page("--since", "2024-03-01", "--until", "2024-03-02", "days.json"))
     log = json.loads(reports.cadf("show", "days.json"))
     log["events"] = [event for event in log["events"] if event["id"] in ("e3", "e5")]
     listed = json.loads(reports.cadf("show", "--conflicts", "days.json"))
@@ -282,9 +284,9 @@ def test_faults(reports):
     absent = "cadf-report: /absent/cadf: No such file or directory: name the command by CADF, or put it on PATH"
     assert reports.answer("both", env={"CADF": "/absent/cadf"}) == (3, b"", [absent])
     assert reports.answer("both", env={"CADF": "true"})[0] == 3
-    no_times = ["yesterday", "2024-02-30", "0000-01-01", "2024-03-01T24:00", "2024-03-01T12:60", "2024-03-01T12:00:60Z",
+    no_times = ["yesterdays", "2024-02-30", "0000-01-01", "2024-03-01T24:00", "2024-03-01T12:60", "2024-03-01T12:00:60Z",
                 "2024-03-01T12:00+14:01", "2024-03-01T12:00-02:60", "2024-03-01T12:00+15:00"]
-    for words in ([], ["--lo", "g", "both"], *(["--from", text, "both"] for text in no_times)):
+    for words in ([], ["--lo", "g", "both"], *(["--since", text, "both"] for text in no_times)):
         status, output, said = reports.answer(*words)
         assert (status, output) == (2, b""), "usage %s" % words
         assert said[-1].startswith("cadf-report: error: "), "usage %s" % words
@@ -355,16 +357,29 @@ def test_many_conflicts(reports):
     assert page.counts()[2] == len(page.value(page.data["listed"])["conflicts"]) == len(page.data["digests"]) == 150
 
 
+@pytest.mark.parametrize("words", [["--action", "re*", "--outcome", "success"], ["--id", "e*"], ["--grep", "</script>"], ["--match", "/action=read"],
+                                   ["--failed", "--since", "2024-03"], ["--target", "nobody <b>"]])
+def test_what_is_asked_chooses_events(reports, words):
+    """Those that cadf-events shows of the same question; the head of the page says what was asked, and runs none of it."""
+    content = reports.page(*words, "hostile.json")
+    asked = ended(os.path.join(os.path.dirname(TOOL), "cadf-events"), [*words, "--contradicted", "hide", "hostile.json"], env=reports.environment)
+    page = Data(content)
+    assert page.value(page.data["log"]).get("events", []) == [json.loads(line) for line in asked.output.splitlines()]
+    assert html.escape("Only the events that answer %s" % shlex.join(word for word in words if word not in ("--since", "2024-03")).replace(
+        "--failed", "--outcome failure --outcome 'failure/*'")).encode() in content
+    assert reports.answer(*words, "--against", "hostile.json", "hostile.json")[0] == 2
+
+
 def test_many(reports):
     """More events than a page holds are refused with the time of a first page; pages by what is said have all of them."""
     at = "2024-03-01T23:59:59.5Z"
     many = with_setting(reports, "MOST_EVENTS", 3, "days.json")
     assert many.status == 1
     assert many.output == b""
-    assert many.error.decode() == "cadf-report: more than 3 events: make a page with --until %s, and more pages with --from %s\n" % (at, at)
+    assert many.error.decode() == "cadf-report: more than 3 events: make a page with --until %s, and more pages with --since %s\n" % (at, at)
     events = json.loads(reports.cadf("show", "days.json"))["events"]
     shown = []
-    for words in (["--until", at], ["--from", at]):
+    for words in (["--until", at], ["--since", at]):
         part = with_setting(reports, "MOST_EVENTS", 3, *words, "days.json")
         assert (part.status, part.error) == (0, b"")
         page = Data(part.output)

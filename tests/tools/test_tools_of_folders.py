@@ -227,7 +227,7 @@ def test_agree_of_a_folder_and_a_sketch_has_the_files_of_one_window_open_at_a_ti
         assert sites.run("agree", "sketch", "north", **FEW) == (status, output, [line.replace(file, "north") for line in said[::-1]])
 
 
-@pytest.mark.parametrize("words", [["conflicts", "--values"], ["events"], ["events", "--since", DAYS[0][:10]], ["report"], ["report", "--from", DAYS[0][:10]]])
+@pytest.mark.parametrize("words", [["conflicts", "--values"], ["events"], ["events", "--since", DAYS[0][:10]], ["report"], ["report", "--since", DAYS[0][:10]]])
 def test_lists_have_the_files_of_one_window_open_at_a_time(sites, words):
     """So a site of more windows than files may be open is listed, also where a key is in several windows."""
     for number in (0, 2):
@@ -355,11 +355,11 @@ def test_report_of_a_folder_is_that_of_its_file(sites):
     sites.north.takes(told_on_two_days(2))
     file = sites.file("file.cadf", told_on_two_days(0), told_on_two_days(2))
     assert sites.run("report", "north/") == sites.run("report", file)
-    of_range = ["report", "--from", DAYS[2], "--against"]
+    of_range = ["report", "--since", DAYS[2], "--against"]
     assert sites.run(*of_range, "north/", file) == sites.run(*of_range, file, "north/") == sites.run(*of_range, file, file)
 
 
-@pytest.mark.parametrize("words", [["events"], ["report", "--from", "2024-03-01"]])
+@pytest.mark.parametrize("words", [["events"], ["report", "--since", "2024-03-01"]])
 @pytest.mark.parametrize("key", ['"x', ""])
 def test_right_digests_make_no_right_lines(sites, words, key):
     """A folder that somebody sent has a key that doesn't end with its line. cadf says what is wrong with the file."""
