@@ -91,7 +91,7 @@ def hash_of(lines):
 
 def lines_at(each, begin, length, found):
     """The lines of a key in an open file, which have to be those that were read there before."""
-    lines = os.pread(each.file.fileno(), length, begin)
+    lines = each.bytes_at(begin, length)
     if hash_of(lines) != found:
         raise Fault("%s: %s" % (each.name, DAMAGED), REFUSED)
     return lines

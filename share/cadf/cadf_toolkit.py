@@ -360,23 +360,30 @@ class Input:
             raise Fault("%s: not there, and files are given to cadf by it: mount /proc" % path)
         return path
 
-    def first(self, count):
-        """The first bytes. Raises the system's words if they can't be read."""
+    @contextlib.contextmanager
+    def judged(self):
+        """A context in which a read that fails by the file's own fault is a Fault that names it: others may be read."""
         try:
-            return os.pread(self.file.fileno(), count, 0)
-        except OSError as fault:
-            raise Fault("%s: %s" % (self.name, fault.strerror)) from None
-
-    def check_readable(self):
-        """Raises the system's words if it can't be opened as `cadf` opens it, or not be read to its end."""
-        try:
-            with self.reading() as file:
-                while file.read(2 ** 20):
-                    pass
+            yield
         except OSError as fault:
             if fault.errno in NOT_ITS_FAULT:
                 raise
             raise Fault("%s: %s" % (self.name, fault.strerror)) from None
+
+    def bytes_at(self, begin, count):
+        """At most so many bytes at a place. Raises the system's words if they can't be read."""
+        with self.judged():
+            return os.pread(self.file.fileno(), count, begin)
+
+    def first(self, count):
+        """The first bytes. Raises the system's words if they can't be read."""
+        return self.bytes_at(0, count)
+
+    def check_readable(self):
+        """Raises the system's words if it can't be opened as `cadf` opens it, or not be read to its end."""
+        with self.judged(), self.reading() as file:
+            while file.read(2 ** 20):
+                pass
 
     def log(self):
         """The log that it names as a replica file does, or None."""
@@ -393,13 +400,8 @@ class Input:
 
     def whole(self):
         """All its bytes. Fault: they can't be read, while others may be."""
-        try:
-            with self.reading() as file:
-                return file.read()
-        except OSError as fault:
-            if fault.errno in NOT_ITS_FAULT:
-                raise
-            raise Fault("%s: %s" % (self.name, fault.strerror)) from None
+        with self.judged(), self.reading() as file:
+            return file.read()
 
     def kind(self):
         """What else the file is than one of facts, or None."""
