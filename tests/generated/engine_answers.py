@@ -5,22 +5,22 @@ Each of `KINDS` makes a driver's name, a call with its words and the fields of i
 """
 from tests.generated.generate import Case
 from tests.reference.command import DIRECTORY, OPTIONS, Call, Usage, answer
+from tests.tables.engine_calls import CALLS
 
 LARGEST = 20000  # bytes of a file; a larger one takes too many reads
 LONGEST_PIECE = 9
 
 
 def engine(call):
-    """The name of the engine of a command line, and its own words."""
-    name = "run_" + call.command.decode().replace("-", "_")
-    if call.command == b"missing" and len(call.files) > 2:
-        return name + "_unions", [call.senders]
-    if call.command not in (b"join", b"split", b"prove", b"verify") and len(call.files) > (2 if call.again else 1):
-        name += "_union"
+    """The name of the engine of a command line, and its own words: `run` of the request, where it has no call of its own on so
+    many files."""
+    is_several = call.command != b"join" and len(call.files) > (2 if call.again else 1)
+    name = call.command.decode().replace("-", "_")
+    name = ("run_" if "run_" + name in CALLS and not is_several else "ask_") + name
     own = {
         b"join": lambda: [call.log or b""], b"rehearse": lambda: [call.log, call.sites], b"rule": lambda: call.ruling,
         b"split": lambda: [call.unit, call.log or b""], b"show": lambda: ["conflicts" if call.flag else "log"],
-        b"verify": lambda: ["absent" if call.flag else "present"],
+        b"verify": lambda: ["absent" if call.flag else "present"], b"missing": lambda: [call.senders] if is_several else [],
         b"sketch": lambda: [call.given.get(option, b"") for option in OPTIONS[b"sketch"]]}
     return name, own.get(call.command, lambda: [])()
 

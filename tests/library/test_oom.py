@@ -60,7 +60,8 @@ WRITES = {
     "file write", "file write_inventory", "file write_seal", "file write_proof", "file write_sketch", "file write_log", "file write_conflicts",
     "json write_all", "json write_by_std"}
 # Of these nothing is written where memory is refused.
-TEXTS = {"file write_log", "file write_conflicts", "engine run_show", "engine run_check", "engine run_rehearse", "engine run_verify"}
+TEXTS = {"file write_log", "file write_conflicts", "engine run_show", "engine run_check", "engine run_rehearse",
+         "engine ask_show", "engine ask_check", "engine ask_rehearse", "engine ask_verify"}
 # What else a refusal is answered by: by a fault's text, with a count, or by a driver that takes what isn't whole as nothing.
 OTHER = {
     "event fault": r"some\tout of memory\n", "json read_by_std": r"err\tMemory\t\d+\n", "file write_inventory": "no inventory\n",

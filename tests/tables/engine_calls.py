@@ -16,29 +16,12 @@ CALLS = {
     "each": [],
     "load": ["load", "Loaded::log", "ReplicaFeed::after_magic", "Source::borrow_next"],
     "load_within": ["load_within"],
-    "run_join": ["run_join"],
-    "run_split": ["run_split"],
-    "run_missing": ["run_missing"],
-    "run_missing_by": ["run_missing_by"],
-    "run_inventory": ["run_inventory"],
-    "run_sketch": ["run_one", "Cells::by_default"],
-    "run_missing_by_sketch": ["run_missing_by_sketch"],
-    "run_seal": ["run_one"],
-    "run_prove": ["run_prove"],
-    "run_verify": ["run_verify"],
-    "run_rule": ["run_rule"],
-    "run_rehearse": ["run_rehearse"],
-    "run_show": ["run_show"],
-    "run_check": ["run_check"],
-    "run_missing_unions": ["run_missing_unions"],
-    "run_missing_by_union": ["run_missing_by_union"],
-    "run_inventory_union": ["run_union"],
-    "run_sketch_union": ["run_union"],
-    "run_missing_by_sketch_union": ["run_missing_by_sketch_union"],
-    "run_seal_union": ["run", "Request::accepts"],
-    "run_rule_union": ["run_union"],
-    "run_show_union": ["run_union"],
-    "run_check_union": ["run_check_union"],
+    **{name: [name] for name in (
+        "run_join", "run_missing", "run_missing_by", "run_inventory", "run_rule", "run_rehearse", "run_show", "run_check")},
+    **{"ask_" + name: ["run", "Request::accepts"] for name in (
+        "join", "split", "missing", "missing_by", "inventory", "missing_by_sketch", "seal", "prove", "verify", "rule", "rehearse", "show",
+        "check")},
+    "ask_sketch": ["run", "Cells::by_default"],
     "fault": ["status"],
     "metered": ["CountingSink::new", "CountingSink::bytes_written", "CountingSink::over_limit", "CountingSink::into_inner"],
 }
@@ -59,12 +42,16 @@ def writer(piece=ALL, way="never", number=0):
     return [piece, way, number]
 
 
-def engine(command, readers, to=None):
-    """The engine's call that the words of a command stand for: its name and its words."""
+def engine(command, readers, to=None, asks=False):
+    """The engine's call that the words of a command stand for: its name and its words. `run` of the request, if `asks` says so or
+    no call of its own is on so many readers."""
     (name, *own), readers = command.split(), list(readers)
-    several = len(readers) > (2 if name.startswith("missing") else 1)
+    several = name != "join" and len(readers) > (2 if name.startswith("missing") else 1)
+    call = "run_" + name.replace("-", "_")
+    if asks or several or call not in CALLS:
+        call = "ask_" + call[len("run_"):]
     if name.startswith("missing"):
-        own = [1 + own.count("--from")] if several and name == "missing" else []
+        own = [1 + own.count("--from")] if call == "ask_missing" else []
     if name == "join":
         own = own[1:] or [""]
     if name == "split":
@@ -76,8 +63,7 @@ def engine(command, readers, to=None):
     if name == "sketch":
         given = dict(re.findall(r"--(\w+)[= ](\w+)", command))
         own = [given.get(option, "") for option in ("cells", "salt")]
-    kind = "" if name in ("join", "split", "prove", "verify") or not several else "_unions" if name == "missing" else "_union"
-    return "run_" + name.replace("-", "_") + kind, [*(to or writer()), *own, *(word for one in readers for word in one)]
+    return call, [*(to or writer()), *own, *(word for one in readers for word in one)]
 
 
 def each(first, last, call, words):
@@ -386,9 +372,11 @@ NO_VALUES = [("E", "e1", 0), ("E", "e1", 3), ("E", "e1", 2**64 - 1), ("E", "e2",
 for letter, key, place in NO_VALUES:
     row(*engine("rule %s %s %d" % (letter, key, place), [reader(made.RULED_TREE)]), ["err", "NoValue"], FAULTS)
 
-# A call of each engine, whole.
+# A call of each engine, and a run of each request, whole.
 for command, inputs, output in READ:
-    row(*engine(command, map(reader, inputs)), told(output), COMMANDS)
+    own, asked = (engine(command, map(reader, inputs), asks=asks) for asks in (False, True))
+    for call, words in [own] if own == asked else [own, asked]:
+        row(call, words, told(output), COMMANDS)
 row(*engine("join --log g", []), told(made.NOTHING_TREE), COMMANDS)
 
 # The status and the text of failed reads and writes.

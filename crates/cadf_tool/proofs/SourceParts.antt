@@ -35,7 +35,7 @@ module _ {S : Type 0} (see : S → SourceState) where
 module _ {S M W T : Type 0} (see : S → SourceState) {tell : M → Text} {sink : Sink W} {old new : W} {result : Result T ToolFault} where
   pub in_two_run : {work : List Loaded × List Loaded → Result M ToolFault → Type 0} (k : ℕ) (xs a b a' b' : List S) → xs ≡ a ++ b → length a ≡ k
       → length a' ≡ length a
-      → IsRunBy (both (inputs_from 1 (map see a) (map see a')) (inputs_from (length a + 1) (map see b) (map see b'))) work tell sink old new result
+      → IsRunBy (both (inputs_from 1 (map see a) (map see a')) (inputs_from (k + 1) (map see b) (map see b'))) work tell sink old new result
       → IsRunBy (in_two k (map see xs) (map see (a' ++ b'))) work tell sink old new result
   in_two_run {work} k xs a b a' b' is count same run =
       subst (λ j. IsRunBy (in_two j (map see xs) (map see (a' ++ b'))) work tell sink old new result) count
@@ -45,14 +45,15 @@ module _ {S M W T : Type 0} (see : S → SourceState) {tell : M → Text} {sink 
         backs see a b,
         subst (λ j. take j (map see (a' ++ b')) ≡ map see a') same (fronts see a' b'),
         subst (λ j. drop j (map see (a' ++ b')) ≡ map see b') same (backs see a' b'),
-      ) run))
+      ) (subst (λ j. IsRunBy (both (inputs_from 1 (map see a) (map see a')) (inputs_from (j + 1) (map see b) (map see b'))) work tell sink old new result)
+      (sym count) run)))
 
-  pub and_last_run : {B : Type 0} (reader : InputSpec B) {work : List Loaded × B → Result M ToolFault → Type 0} (xs a l a' : List S) (d y : S)
-      → xs ≡ a ++ l → length l ≡ 1 → length a' ≡ length a
-      → IsRunBy (both (inputs_from 1 (map see a) (map see a')) (with_number (length a + 1) reader (record { old = see (get_or l 0 d); new = see y }))) work
+  pub and_last_run : {B : Type 0} (reader : InputSpec B) {work : List Loaded × B → Result M ToolFault → Type 0} (number : ℕ) (xs a l a' : List S) (d y : S)
+      → xs ≡ a ++ l → length l ≡ 1 → length a' ≡ length a → number ≡ length a + 1
+      → IsRunBy (both (inputs_from 1 (map see a) (map see a')) (with_number number reader (record { old = see (get_or l 0 d); new = see y }))) work
       tell sink old new result
       → IsRunBy (and_last reader (map see xs) (map see (a' ++ set l 0 y))) work tell sink old new result
-  and_last_run reader {work} xs a l a' d y is last same run =
+  and_last_run reader {work} number xs a l a' d y is last same numbered run =
       let count : length a ≡ length (map see xs) - 1 = omega (arith, length-map xs see, ap length is, length-append a l, last) in
       subst (λ j. IsRunBy (and_one reader j (map see xs) (map see (a' ++ set l 0 y))) work tell sink old new result) count
       (subst (λ ys. IsRunBy (and_one reader (length a) (map see ys) (map see (a' ++ set l 0 y))) work tell sink old new result) (sym is)
@@ -63,7 +64,8 @@ module _ {S M W T : Type 0} (see : S → SourceState) {tell : M → Text} {sink 
         subst (λ j. drop j (map see (a' ++ set l 0 y)) ≡ map see (set l 0 y)) same (backs see a' (set l 0 y)),
         first_seen see l d last,
         first_set see l y last,
-      ) run))
+      ) (subst (λ n. IsRunBy (both (inputs_from 1 (map see a) (map see a')) (with_number n reader (record { old = see (get_or l 0 d); new = see y }))) work
+      tell sink old new result) numbered run)))
 
   pub one_and_others_run : {work : Loaded × List Loaded → Result M ToolFault → Type 0} (xs l b b' : List S) (d y : S) → xs ≡ l ++ b
       → length l ≡ 1

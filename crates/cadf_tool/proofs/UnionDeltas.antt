@@ -23,7 +23,7 @@ use Rattle.cadf_tool.specs.JoinState.{IsJoinState, log_joined, IsOnOk}
 use Rattle.cadf_tool.specs.Missing.{under_one_log_at, missing_of, delta_between, if_named, part_of_unions}
 use Rattle.cadf_tool.specs.MissingBy.{missing_by_at, part_by, part_by_union}
 use Rattle.cadf_tool.specs.Run.{IsWorkFaultBy, IsWorked, IsWorkedBy}
-use Rattle.cadf_tool.specs.Sketch.{IsAnswerOfResult, IsAnswerTo, IsPartBySketch, IsPartOfUnionBySketch}
+use Rattle.cadf_tool.specs.Sketch.{IsAnswerOfResult, IsAnswerTo, IsPartOfUnionBySketch}
 use Rattle.cadf_tool.specs.Told.{log_named, atoms_loaded, under_log}
 use Rattle.cadf_tool.proofs.Unions.{on_value, on_fault, join_one}
 use Rattle.cadf_tool.proofs.UnitingLemmas.{not_other}
@@ -156,8 +156,3 @@ part_by_one f noted =
         ≡ under_one_log_at 2 o (Some noted.log) (missing_by atom_digest s noted.digests)
     by None s = refl
     by (Some log) s = refl
-
-pub by_sketch_worked : (f : Loaded) (sketch : SketchModel) (r : Result ReplicaModel ToolFault) → IsWorkedBy (IsPartOfUnionBySketch (f ∷ [], sketch)) r
-    → IsWorkedBy (IsPartBySketch (f, sketch)) r
-by_sketch_worked f sketch r w = subst (λ n. IsWorkedBy (IsAnswerOfResult n sketch (under_log (log_named f) (atoms_loaded f))) r) (two_is f)
-    (subst (λ j. IsWorkedBy (IsAnswerOfResult (length (f ∷ []) + 1) sketch j) r) (join_one 1 f) w)

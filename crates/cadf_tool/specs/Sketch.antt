@@ -1,8 +1,7 @@
--- The sketch of an input's inventory, and the delta of an input against a sketch.
+-- The sketch of an input's inventory, and the delta of a union against a sketch.
 --     AreAsked cells salt                 a sketch can have this number of cells and this salt, as far as they are given
 --     sketch_model_of cells salt loaded   the sketch of an input's inventory, or why there is none
---     IsPartBySketch both answer          a result for an input and a sketch; a relation, since it leaves open which digests peeling finds
---     IsPartOfUnionBySketch both answer   the same of a list of inputs, which is joined, and a sketch
+--     IsPartOfUnionBySketch both answer   a result for a list of inputs and a sketch; a relation, since it leaves open which digests peeling finds
 use Rattle.std.specs.Prelude.{◌≡◌, ◌<◌, ◌+◌, ◌^◌, ℕ, true, List, length, Option, None, IfSome, unwrap_or, Result, Ok, Err}
 use Rattle.cadf_set.specs.Inventory.{InventoryModel}
 use Rattle.cadf_set.specs.Replica.{ReplicaModel}
@@ -17,7 +16,6 @@ use Rattle.cadf_tool.specs.declared.fault.ToolFault.{ToolFault}
 use Rattle.cadf_tool.specs.declared.fault.ToolFault.TheVariants.{OtherLog, TooFewCells, Memory}
 use Rattle.cadf_tool.specs.Join.{join_of}
 use Rattle.cadf_tool.specs.MissingBy.{inventory_model_of}
-use Rattle.cadf_tool.specs.Told.{replica_model_of}
 
 pub record AreAsked (cells salt : Option ℕ) : Type 0 where
   pub number : IfSome cells (λ n. are_cells n ≡ true)
@@ -46,10 +44,6 @@ abbrev pub IsAnswerOfResult : ℕ → SketchModel → Result ReplicaModel ToolFa
 IsAnswerOfResult number sketch (Ok held) answer = IsAnswerTo number sketch held answer
 IsAnswerOfResult number sketch (Err fault) answer = answer ≡ Err fault
 
--- THE DELTA AGAINST A SKETCH: the one against an inventory that has the sketch's digest
-abbrev pub IsPartBySketch : Loaded × SketchModel → Result ReplicaModel ToolFault → Type 0
-IsPartBySketch both answer = IsAnswerOfResult 2 both.1 (replica_model_of both.0) answer
-
--- the sketch is numbered after the inputs
+-- THE DELTA AGAINST A SKETCH: the one against an inventory that has the sketch's digest. The sketch is numbered after the inputs
 abbrev pub IsPartOfUnionBySketch : List Loaded × SketchModel → Result ReplicaModel ToolFault → Type 0
 IsPartOfUnionBySketch both answer = IsAnswerOfResult (length both.0 + 1) both.1 (join_of None both.0) answer

@@ -1,7 +1,6 @@
 -- What a proof says, under a seal, of the facts of an input.
---     sources_of seal facts proof        the outcome of reading the three inputs, in this order
 --     verdict_lines absent seal facts proof  a line for each fact, which is as asked, or why not
---     verdict_of absent inputs           the same of the three inputs: a seal, the facts, and a proof
+--     verdict_of absent inputs               the same of three inputs: a seal, the facts, and a proof
 use Rattle.std.specs.Prelude.{ℕ, nat_eq, Bool, List, length, Some, if◌then◌else◌, Result, Ok, Err}
 use Rattle.cadf_join.specs.Sets.{rising}
 use Rattle.cadf_seal.specs.ProofFile.{ProofModel}
@@ -14,11 +13,6 @@ use Rattle.cadf_tool.specs.declared.fault.ToolFault.{ToolFault}
 use Rattle.cadf_tool.specs.declared.fault.ToolFault.TheVariants.{OtherLog, NoFacts}
 use Rattle.cadf_tool.specs.Faults.{of_verify}
 use Rattle.cadf_tool.specs.Join.{is_other, facts_under, on_ok}
-use Rattle.cadf_tool.specs.Run.{Sources, SourceTransition, one, both, with_number, input_spec}
-use Rattle.cadf_tool.specs.ModelInput.{seal_spec, proof_spec}
-
-abbrev pub sources_of : SourceTransition → SourceTransition → SourceTransition → Sources (SealModel × (Loaded × ProofModel))
-sources_of seal facts proof = both (one seal_spec seal) (both (with_number 2 input_spec facts) (with_number 3 proof_spec proof))
 
 abbrev pub of_verified : Result (List ℕ) VerifyFault → Result (List ℕ) ToolFault
 of_verified (Ok text) = Ok text

@@ -14,7 +14,7 @@ use std::alloc::Global;
 
 /// Makes the inventory of a replica, and writes its file.
 #[derive(Drop)]
-pub struct InventoryEngine;
+pub(crate) struct InventoryEngine;
 
 impl Engine for InventoryEngine {
     type Made = Inventory;

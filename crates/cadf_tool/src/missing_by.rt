@@ -1,5 +1,5 @@
 //! The engine of `missing-by`: what a union of inputs has beyond an inventory, as a replica file.
-ghost use Rattle.std.specs.Prelude.{◌≡◌, ◌+◌, ◌≤◌, ◌<◌, ◌^◌, length, map, List, None};
+ghost use Rattle.std.specs.Prelude.{◌≡◌, ◌+◌, ◌≤◌, length, map, List, None};
 ghost use Rattle.cadf_tool.specs.WrittenFile.{written_file};
 ghost use Rattle.cadf_tool.specs.declared.input.Loaded.{Loaded};
 ghost use Rattle.cadf_tool.specs.declared.input.Loaded.TheVariants as loaded;
@@ -8,7 +8,7 @@ ghost use Rattle.cadf_tool.specs.JoinState.{IsJoinState, IsOnOk};
 ghost use Rattle.cadf_tool.specs.MissingBy.{missing_by_at, part_by, part_by_union};
 ghost use Rattle.cadf_tool.specs.Inputs.{source_state};
 ghost use Rattle.cadf_tool.specs.Request.{and_last};
-ghost use Rattle.cadf_tool.specs.Run.{all, both, with_number, two, transition_of, input_spec, IsWorked, IsRun};
+ghost use Rattle.cadf_tool.specs.Run.{two, transition_of, input_spec, IsWorked, IsRun};
 
 use crate::fault::ToolFault;
 use crate::inputs::load_inventory;
@@ -68,26 +68,8 @@ pub fn run_missing_by<R: Source, W: Sink>(
     write_result(alloc, part(2, first, &noted), output)
 }
 
-/// Writes the replica file of the delta of the union of all `from` against `inventory`, which is counted last. `Err`:
-/// why nothing was written, or only a prefix.
-pub fn run_missing_by_union<R: Source, W: Sink>(
-    alloc: Global,
-    from: &mut [R],
-    inventory: &mut R,
-    output: &mut W,
-) -> Result<(), ToolFault>
-    requires { length from.old + 1 < 2 ^ 64 }
-    ensures { IsRun (both (all R.Source from.old from.new)
-        (with_number (length from.old + 1) inventory_spec (transition_of R.Source inventory.old inventory.new)))
-        part_by_union written_file W.Sink output.old output.new result }
-{
-    let number = from.len() + 1;
-    let union = union_with(alloc, JoinState::new(alloc, None), 1, from)?;
-    let noted = load_inventory(alloc, number, inventory);
-    write_result(alloc, part(number, union, &noted), output)
-}
-
-/// Writes the same of all sources but the last against the last, an inventory file.
+/// Writes the replica file of the delta of the union of all sources but the last against the last, which is read as an
+/// inventory file. `Err`: why nothing was written, or only a prefix.
 pub(crate) fn write_missing_by<R: Source, W: Sink>(
     alloc: Global,
     sources: &mut [R],
@@ -97,7 +79,10 @@ pub(crate) fn write_missing_by<R: Source, W: Sink>(
     ensures { IsRun (and_last inventory_spec (map (source_state R.Source) sources.old) (map (source_state R.Source) sources.new))
         part_by_union written_file W.Sink output.old output.new result }
 {
-    let count = sources.len() - 1;
-    let (from, last) = sources.split_at_mut(count);
-    run_missing_by_union(alloc, from, &mut last[0], output)
+    let number = sources.len();
+    let (from, last) = sources.split_at_mut(number - 1);
+    let last = &mut last[0];
+    let union = union_with(alloc, JoinState::new(alloc, None), 1, from)?;
+    let noted = load_inventory(alloc, number, last);
+    write_result(alloc, part(number, union, &noted), output)
 }

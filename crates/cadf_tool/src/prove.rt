@@ -1,5 +1,5 @@
 //! The engine of `prove`: the proof of which facts of an input are in a union of others, as a proof file.
-ghost use Rattle.std.specs.Prelude.{◌+◌, ◌≤◌, ◌^◌, length, map, List, None, Ok};
+ghost use Rattle.std.specs.Prelude.{◌≤◌, length, map, List, None, Ok};
 ghost use Rattle.cadf_seal.specs.ProofFile.{proof_file};
 ghost use Rattle.cadf_sketch.specs.Answers.{inventory_of};
 ghost use Rattle.cadf_tool.specs.declared.input.Loaded.{Loaded};
@@ -8,7 +8,7 @@ ghost use Rattle.cadf_tool.specs.JoinState.{IsJoinState};
 ghost use Rattle.cadf_tool.specs.Inputs.{source_state};
 ghost use Rattle.cadf_tool.specs.Request.{one_and_others};
 ghost use Rattle.cadf_tool.specs.Prove.{proof_for, proof_of_union};
-ghost use Rattle.cadf_tool.specs.Run.{one, all_from, both, transition_of, input_spec, IsWorked, IsRun};
+ghost use Rattle.cadf_tool.specs.Run.{IsWorked, IsRun};
 
 use crate::fault::{ToolFault, answered};
 use crate::input::Loaded;
@@ -50,26 +50,8 @@ fn proof_by(alloc: Global, union: JoinState, facts: Loaded) -> Result<Proof, Too
     proof_for(alloc, &held, facts)
 }
 
-/// Writes the proof file for what `facts` contributes, under the seal of the union of `inputs`: which of it is in the
-/// union, and which is not. Inputs are counted from 1: `facts` is the first. `Err`: why nothing was written, or only a
-/// prefix.
-pub fn run_prove<R: Source, W: Sink>(
-    alloc: Global,
-    facts: &mut R,
-    inputs: &mut [R],
-    output: &mut W,
-) -> Result<(), ToolFault>
-    requires { length inputs.old + 2 ≤ 2 ^ 64 }
-    ensures { IsRun (both (one input_spec (transition_of R.Source facts.old facts.new)) (all_from 2 R.Source inputs.old inputs.new))
-        proof_of_union proof_file W.Sink output.old output.new result }
-{
-    let asked = load_one(alloc, 1, facts)?;
-    let union = union_with(alloc, JoinState::new(alloc, None), 2, inputs)?;
-    let proof = proof_by(alloc, union, asked)?;
-    answered(write_model(alloc, &proof, output))
-}
-
-/// Writes the same for the first input, under the seal of the union of the others.
+/// Writes the proof file for what the first input contributes, under the seal of the union of the others: which of it is
+/// in the union, and which is not. `Err`: why nothing was written, or only a prefix.
 pub(crate) fn write_proof<R: Source, W: Sink>(
     alloc: Global,
     inputs: &mut [R],
@@ -80,5 +62,9 @@ pub(crate) fn write_proof<R: Source, W: Sink>(
         proof_of_union proof_file W.Sink output.old output.new result }
 {
     let (facts, others) = inputs.split_at_mut(1);
-    run_prove(alloc, &mut facts[0], others, output)
+    let facts = &mut facts[0];
+    let asked = load_one(alloc, 1, facts)?;
+    let union = union_with(alloc, JoinState::new(alloc, None), 2, others)?;
+    let proof = proof_by(alloc, union, asked)?;
+    answered(write_model(alloc, &proof, output))
 }

@@ -25,7 +25,7 @@ fn sealed(alloc: Global, replica: &Replica) -> Result<Seal, ToolFault>
 /// Makes the seal of a replica's inventory, and writes its file: its log, how many atoms it has, and the root of the tree
 /// over their digests.
 #[derive(Drop)]
-pub struct SealEngine;
+pub(crate) struct SealEngine;
 
 impl Engine for SealEngine {
     type Made = Seal;

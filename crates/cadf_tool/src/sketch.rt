@@ -18,9 +18,9 @@ use std::alloc::Global;
 /// of cells is `Cells::by_default` if none is given. If no salt is given, the inventory's digest determines it, so that one
 /// set has one sketch.
 #[derive(Drop)]
-pub struct SketchEngine {
-    pub cells: Option<Cells>,
-    pub salt: Option<Salt>,
+pub(crate) struct SketchEngine {
+    pub(crate) cells: Option<Cells>,
+    pub(crate) salt: Option<Salt>,
 }
 
 impl SketchEngine {

@@ -25,17 +25,3 @@ pub(crate) fn write_split_file<R: Source, W: Sink>(
     let replica = join(alloc, log, inputs)?;
     answered(write_split(alloc, unit, &replica, output))
 }
-
-/// Writes the same under a log that is handed over.
-pub fn run_split<R: Source, W: Sink>(
-    alloc: Global,
-    unit: Unit,
-    log: Option<Name>,
-    inputs: &mut [R],
-    output: &mut W,
-) -> Result<(), ToolFault>
-    ensures { IsRun (all R.Source inputs.old inputs.new) (join_of log) (split_text unit)
-        W.Sink output.old output.new result }
-{
-    write_split_file(alloc, unit, &log, inputs, output)
-}

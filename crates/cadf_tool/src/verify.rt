@@ -3,8 +3,8 @@ ghost use Rattle.std.specs.Prelude.{◌≡◌, length, map, Err};
 ghost use Rattle.cadf_tool.specs.Inputs.{source_state};
 ghost use Rattle.cadf_tool.specs.JoinState.{IsOnOk};
 ghost use Rattle.cadf_tool.specs.Request.{seal_facts_proof};
-ghost use Rattle.cadf_tool.specs.Run.{transition_of, IsWorked, IsAnswer, IsRun};
-ghost use Rattle.cadf_tool.specs.Verify.{verdict_lines, verdict_of, sources_of};
+ghost use Rattle.cadf_tool.specs.Run.{IsWorked, IsAnswer, IsRun};
+ghost use Rattle.cadf_tool.specs.Verify.{verdict_lines, verdict_of};
 
 use crate::fault::ToolFault;
 use crate::input::Loaded;
@@ -75,29 +75,9 @@ fn write_lines<W: Sink>(
     lines?.write(output).or(Err(ToolFault::WriteFault))
 }
 
-/// Writes a line for each fact of `facts`, in the order of atoms, if the proof shows under the seal that each is in the
-/// sealed set; with `absent`, that none is. The seal is input 1, `facts` input 2 and the proof input 3; the first and
-/// the last are read as such files, whatever bytes they begin with. `Err`: why nothing was written, or only a prefix.
-pub fn run_verify<R: Source, W: Sink>(
-    alloc: Global,
-    seal: &mut R,
-    facts: &mut R,
-    proof: &mut R,
-    absent: bool,
-    output: &mut W,
-) -> Result<(), ToolFault>
-    ensures verdict { IsRun (sources_of (transition_of R.Source seal.old seal.new) (transition_of R.Source facts.old facts.new)
-        (transition_of R.Source proof.old proof.new)) (verdict_of absent) (λ text. text) W.Sink output.old output.new result }
-    // All lines are made before they are written.
-    ensures memory { result ≡ Err ToolFault.Memory → output.new ≡ output.old }
-{
-    let seal = load_model(alloc, 1, seal)?;
-    let loaded = load_one(alloc, 2, facts)?;
-    let proof = load_model(alloc, 3, proof);
-    write_lines(verdict(alloc, absent, &seal, loaded, &proof), output)
-}
-
-/// Writes the same of three sources: a seal, facts and a proof.
+/// Writes a line for each fact of the second of three sources, in the order of atoms, if the third, a proof, shows under
+/// the first, a seal, that each is in the sealed set; with `absent`, that none is. The first and the last are read as such
+/// files, whatever bytes they begin with. `Err`: why nothing was written, or only a prefix.
 pub(crate) fn write_verdict<R: Source, W: Sink>(
     alloc: Global,
     absent: bool,
@@ -107,16 +87,14 @@ pub(crate) fn write_verdict<R: Source, W: Sink>(
     requires { length sources.old ≡ 3 }
     ensures verdict { IsRun (seal_facts_proof (map (source_state R.Source) sources.old) (map (source_state R.Source) sources.new))
         (verdict_of absent) (λ text. text) W.Sink output.old output.new result }
+    // All lines are made before they are written.
     ensures memory { result ≡ Err ToolFault.Memory → output.new ≡ output.old }
 {
     let (seal, others) = sources.split_at_mut(1);
     let (facts, proof) = others.split_at_mut(1);
-    run_verify(
-        alloc,
-        &mut seal[0],
-        &mut facts[0],
-        &mut proof[0],
-        absent,
-        output,
-    )
+    let (seal, facts, proof) = (&mut seal[0], &mut facts[0], &mut proof[0]);
+    let seal = load_model(alloc, 1, seal)?;
+    let loaded = load_one(alloc, 2, facts)?;
+    let proof = load_model(alloc, 3, proof);
+    write_lines(verdict(alloc, absent, &seal, loaded, &proof), output)
 }
