@@ -22,7 +22,7 @@ from cadf_logs import UNREADABLE, instant, utc
 from cadf_question import LENGTHS, traits
 from cadf_site import CHANGED, DAMAGED, SHARED, TRIES, made_or_left_out, opened_parts
 from cadf_times import SECOND
-from cadf_toolkit import REFUSED, Fault, Progress, last_digest
+from cadf_toolkit import REFUSED, Fault, Progress
 
 APPLICATION, VERSION = int.from_bytes(b"CADF", "big"), 1
 COLUMNS = ("initiator", "target", "others")  # of bodies, with numbers of texts
@@ -104,7 +104,7 @@ def size_of(files):
 
 def are_as_read(files, size):
     """Whether open files, by digest, are as they were when they were read and had so many bytes, by their sizes and last lines."""
-    return size_of(files) == size and all(last_digest(each.file) == digest for digest, each in files.items())
+    return size_of(files) == size and all(each.last_digest() == digest for digest, each in files.items())
 
 
 def check_read(files, size):

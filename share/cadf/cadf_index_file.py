@@ -11,8 +11,8 @@ import stat
 import urllib.parse
 
 from cadf_index import MALFORMED, EventIndex, Untrusted, files_of
-from cadf_site import INDEX, NOT_ITS_FAULT
-from cadf_toolkit import name_shown, open_descriptor, say
+from cadf_site import INDEX
+from cadf_toolkit import NOT_ITS_FAULT, name_shown, open_descriptor, say
 
 NAME, JOURNAL = ".index", ".index-journal"
 MADE = "an index is made there, since none can be written beside the site"

@@ -379,6 +379,11 @@ class Input:
         """The first bytes. Raises the system's words if they can't be read."""
         return self.bytes_at(0, count)
 
+    def last_digest(self):
+        """The digits of the last line, if it is a replica file's."""
+        with self.judged():
+            return last_digest(self.file)
+
     def check_readable(self):
         """Raises the system's words if it can't be opened as `cadf` opens it, or not be read to its end."""
         with self.judged(), self.reading() as file:

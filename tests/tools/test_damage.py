@@ -154,17 +154,18 @@ def test_a_page_says_what_it_lacks(sites):
         assert status == wanted and left_out("report", FIRST, lines) and "Left out, as damaged: %s.</p>" % FIRST in output
 
 
-def test_a_seal_names_all_damaged_windows(sites):
-    """There is none of such a folder. An earlier one is compared by the other windows."""
+@pytest.mark.parametrize("damage, words", [(changed, ["--full"]), (cut, [])])
+def test_a_seal_names_all_damaged_windows(sites, damage, words):
+    """There is none of such a folder, whatever roots are kept. An earlier one is compared by the other windows."""
     sites.north.takes(contents(0, 2, name="n"))
     (sites.path / "seal").write_text(sites.run("seal", "north/")[1])
     sites.north.takes(contents(5))
-    changed(file_of(sites.north, FIRST))
+    damage(file_of(sites.north, FIRST))
     file_of(sites.north, "shared").unlink()
-    status, output, lines = sites.run("seal", "north/")
+    status, output, lines = sites.run("seal", *words, "north/")
     assert (status, output, len(lines)) == (1, "", 3) and lines[2] == "cadf-seal: north/: it has no seal while a window is damaged"
     assert left_out("seal", "shared", lines[:1]) and left_out("seal", FIRST, lines[1:2])
-    status, output, lines = sites.run("seal", "--compare", "seal", "north/")
+    status, output, lines = sites.run("seal", *words, "--compare", "seal", "north/")
     assert (status, output) == (1, "%s: facts then 2, now 4\n" % SECOND) and left_out("seal", FIRST, lines[2:])
 
 
@@ -181,15 +182,20 @@ def test_settling_goes_on_beside_a_damaged_window(sites):
     assert path.read_bytes() == held and not (sites.north.folder / ".new").exists()
 
 
-@pytest.mark.parametrize("words", [["conflicts"], ["events"], ["events", "--no-index"], ["report"]])
-def test_more_damaged_windows_than_looks(sites, words):
+@pytest.mark.parametrize("words, is_known", [
+    (["conflicts"], False), (["conflicts"], True), (["events"], False), (["events"], True), (["events", "--no-index"], False), (["report"], False),
+    (["seal", "--jobs=3"], False), (["seal", "--jobs=3"], True)])
+def test_more_damaged_windows_than_looks(sites, words, is_known):
+    """Whether the index knows them from before or not."""
     days = ["2024-%02d-%02d" % (1 + day // 28, 1 + day % 28) for day in range(112)]
     sites.north.takes({"id": "g", "events": [dict(EVENT, id=day, eventTime=day + "T00:00:00Z") for day in days]})
+    if is_known:
+        assert sites.run(*words, "north/")[0] == 0
     for day in days[1:]:
         file_of(sites.north, day).unlink()
     status, output, lines = sites.run(*words, "north/")
-    assert status == 1 and len(lines) == 21 and lines[20].endswith("2024-01-21 and others, 111 in all"), lines
-    assert words[0] == "conflicts" or days[0] in output
+    assert status == 1 and len(lines) == 21 + (words[0] == "seal") and lines[20].endswith("2024-01-21 and others, 111 in all"), lines
+    assert words[0] in ("conflicts", "seal") or days[0] in output
 
 
 @pytest.mark.parametrize("words", [(), ("--no-index",), ("--id", "e2"), ("--id", "e0")])
