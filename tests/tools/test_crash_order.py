@@ -40,7 +40,7 @@ def document(key):
 @pytest.mark.parametrize("held, form", [
     (None, "mw+srf"),  # a private file, written, synced, renamed, its name synced
     ("e2", "mw+slrf"),  # the old file keeps a name before
-    ("e1", "Sf"),  # nothing new: a call that was killed may have put it there
+    ("e1", "mw+Sf"),  # nothing new: the file goes, and a call that was killed may have put the old one there
 ])
 def test_take(cadf, tmp_path, held, form):
     environment, site = {**os.environ, "CADF": cadf}, tmp_path / "site.cadf"
