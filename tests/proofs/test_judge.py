@@ -90,7 +90,7 @@ def test_branches_go_with_their_answer(mutants):
 
 def test_folders_of_proofs(mutants):
     """A function of the crate's root has its folder in proofs/, each other one in the folder of its module."""
-    root = corpus.Row("cadf_c", ["src/lib.rt cadf_check", "- answer(", "+ refuse("])
+    root = corpus.Row("cadf_c", ["src/lib.rt cadf_check", "- call(", "+ refuse("])
     other = corpus.Row("cadf_c", ["src/output.rt hand_out", "- *length = text.len()", "+ *length = 0"])
     assert mutants.is_of(root, "proofs/cadf_check") and mutants.is_of(other, "proofs/output/hand_out")
     assert not mutants.is_of(root, "proofs/output/cadf_check") and not mutants.is_of(other, "proofs/hand_out")
