@@ -65,10 +65,10 @@ class Plan(Windows):
                 data = contents(*item)
                 place = data.find(RULINGS)
                 rulings += [self.put([data[place + 1:]])] if place >= 0 else []
-        for part, files in self.inputs.items():
+        for part in sorted({part for key in self.apart for part in self.several[key]}):
             with self.site_folder.leaving_out(part):
-                check_read(files, self.sizes[part])
-                for digest, each in files.items():
+                check_read(self.inputs[part], self.sizes[part])
+                for digest, each in self.inputs[part].items():
                     places = self.places.get((part, digest), {})
                     lines = list(lines_of(each, {key: place for key, place in places.items() if key in self.apart}))
                     texts.update(key for each in lines for key, _ in keys_in(b"\n" + each))
@@ -113,8 +113,11 @@ class Plan(Windows):
             keys = None if self.keys[part] is None else keys_of(self.keys[part])
             names = []
             with self.site_folder.leaving_out(part):
+                is_placed = keys is not None and keys <= self.several.keys()
+                if is_placed:
+                    check_read(self.inputs[part], self.sizes[part])
                 for digest, each in self.inputs[part].items():
-                    if keys is not None and keys <= self.several.keys():
+                    if is_placed:
                         places = self.places.get((part, digest), {})
                         data = b"".join([b"\n", *lines_of(each, {key: places[key] for key in keys & places.keys()})])
                     else:

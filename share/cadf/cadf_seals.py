@@ -15,6 +15,7 @@ import re
 import subprocess
 from typing import NamedTuple
 
+import cadf_state
 from cadf_index import are_as_read, files_of, size_of
 from cadf_index_file import keep, kept
 from cadf_link import Store
@@ -130,16 +131,17 @@ class Root(NamedTuple):
 def sealed_folder(name, damaged, jobs=1, is_full=False):
     """The seal of a folder, as it stood at one moment, without the parts of which a file is damaged, which are noted with why.
 
-    A root that is kept serves if the files are there as they were, by their sizes and last lines, unless all is to be read. `read` is when the oldest was
-    read whole.
+    A root that is kept serves if the files are there as they were, by their sizes and last lines, and none is known to be damaged, unless all is to be read.
+    `read` is when the oldest was read whole.
     """
     with Folder(name, damaged) as folder:
         index, known = folder.site(), {} if is_full else kept(folder, ROOTS)
+        bad = cadf_state.times(cadf_state.lines_of(folder), cadf_state.DAMAGED).keys()
         seal = SiteSeal(index.log, index.unit)
 
         def root_of(part, files):
             key, at = files_of(files), now() // SECOND
-            if key in known and are_as_read(files, known[key][1]):
+            if key in known and are_as_read(files, known[key][1]) and bad.isdisjoint((part, digest) for digest in files):
                 return Root(key, *known[key])
             for digest, file in files.items():
                 check_window(index, (part, digest), file)

@@ -169,6 +169,15 @@ def test_a_seal_names_all_damaged_windows(sites, damage, words):
     assert (status, output) == (1, "%s: facts then 2, now 4\n" % SECOND) and left_out("seal", FIRST, lines[2:])
 
 
+def test_a_kept_root_is_none_of_what_a_scrub_found(sites):
+    sites.north.takes(contents(0, 2, name="n"))
+    seal = sites.run("seal", "north/")
+    changed(file_of(sites.north, FIRST))
+    assert sites.run("seal", "north/") == seal and sites.run("which", "--scrub", "north/")[0] == 1
+    status, output, lines = sites.run("seal", "north/")
+    assert (status, output, len(lines)) == (1, "", 2) and left_out("seal", FIRST, lines[:1])
+
+
 def test_settling_goes_on_beside_a_damaged_window(sites):
     """The others are settled, and the damaged file stays as it is."""
     for keys in ((0, 2), (3, 5)):
@@ -236,6 +245,7 @@ def test_files_that_cannot_be_opened_now_are_no_damage(sites, tmp_path):
     (test_without_its_rulings_no_key_is_settled_or_open, "is_more = SHARED in self.damaged or", "is_more ="),
     (test_rulings_beside_a_damaged_window, "status = REFUSED if told == REFUSED else status", "status = status or told"),
     (test_settling_goes_on_beside_a_damaged_window, "self.is_removed(WORKING)  # the next part goes on", "pass"),
+    (test_a_kept_root_is_none_of_what_a_scrub_found, " and bad.isdisjoint((part, digest) for digest in files)", ""),
     (test_a_page_says_what_it_lacks, "for each in self.folders if each.damaged]", "for each in ()]"),
     (test_files_that_cannot_be_opened_now_are_no_damage, "                raise\n            is_other = ", "                pass\n            is_other = "),
 ])
