@@ -103,15 +103,14 @@ def test_proofs_of_random_sets():
         absent = {("P", "q%d" % key, "1") for key in range(chance.randrange(1, 4))}
         for asked, word, other in ((there, "present", "absent"), (absent, "absent", "present")):
             proof = proof_of("g", asked, atoms)
-            lines = "".join("%s P \"%s\"\n" % (word, key) for _, key, _ in sorted(asked))
-            assert shown(atoms, asked, proof, word) == lines.encode()
+            assert shown(atoms, set(), proof, word) == "input 2: no facts"
             if asked:
+                lines = "".join("%s P \"%s\"\n" % (word, key) for _, key, _ in sorted(asked))
+                assert shown(atoms, asked, proof, word) == lines.encode()
                 assert shown(atoms, asked, proof, other) == "fact 1: " + word
                 assert shown(atoms | {("P", "r", "1")}, asked, proof, word) == "input 3: other count"
             if size and asked:
                 assert shown({*sorted(atoms)[1:], ("P", "r", "1")}, asked, proof, word) == "input 3: other root"
-            if size:
-                assert shown(atoms, set(), proof, word) == ("input 3: line 4: not needed" if asked else b"")
 
 
 def test_other_trees_are_not_these():

@@ -4,7 +4,7 @@ use Rattle.std.proofs.Common.{append_assoc, take-suc, drop-cons}
 use Rattle.std.proofs.Common.{Result, Ok, Err, MatchResult, IsErrAnd}
 use Rattle.std.specs.Borrow.{Bor}
 use Rattle.std.specs.Result.{result_map_both}
-use Rattle.std.proofs.lemmas.List.{append-nil, length-map, map-append, take-append-drop}
+use Rattle.std.proofs.lemmas.List.{length-map, map-append, take-append-drop}
 use Rattle.cadf_tool.specs.Inputs.{SourceState}
 use Rattle.cadf_tool.specs.declared.fault.ToolFault.{ToolFault}
 use Rattle.cadf_tool.specs.declared.fault.ToolFault.TheVariants.{ReadFault, Memory}
@@ -22,13 +22,6 @@ in_parts o xs ys = ap (λ (asked : Option (List (Word × Bool))). record { asked
         → option_map (λ earlier. earlier ++ ys) (option_map (λ earlier. earlier ++ xs) asked) ≡ option_map (λ earlier. earlier ++ (xs ++ ys)) asked
     by None = refl
     by (Some earlier) = ap Some (append_assoc earlier xs ys)
-
-pub none_asked : (o : OpenerState) → o ≡ and_asked o []
-none_asked o = ap (λ (asked : Option (List (Word × Bool))). record { asked = asked; bytes = o.bytes }) (by o.asked)
-  where
-    by : (asked : Option (List (Word × Bool))) → asked ≡ option_map (λ earlier. earlier ++ []) asked
-    by None = refl
-    by (Some earlier) = ap Some (sym (append-nil earlier))
 
 and_one : (o mid after : OpenerState) (xs : List (Word × Bool)) (call : Word × Bool) → mid ≡ and_asked o xs
     → after ≡ and_asked mid (call ∷ []) → after ≡ and_asked o (xs ++ call ∷ [])
