@@ -53,7 +53,7 @@ def beside(folder):
     with contextlib.suppress(FileExistsError):
         if is_ours:
             with open_descriptor(folder.open(NAME, os.O_WRONLY | os.O_CREAT | os.O_EXCL)) as file:
-                folder.give(file, stat.S_IMODE(site.st_mode))
+                folder.give(file, stat.S_IMODE(site.st_mode & folder.found.st_mode))  # as a take gives the next `site`
     for name in (NAME, JOURNAL):
         try:
             found = os.stat(name, dir_fd=folder.descriptor, follow_symlinks=False)
