@@ -150,8 +150,9 @@ class FolderSite:
 
     def digests(self, _, since):
         """The digest of each part, from a window on."""
-        known, new, found = kept(self.folder, UNIONS, [beside]), {}, {}
-        for part, files in self.folder.site().parts().items():
+        parts, new, found = self.folder.site().parts(), {}, {}
+        known = kept(self.folder, UNIONS, [beside]) if any(len(files) > 1 for files in parts.values()) else {}
+        for part, files in parts.items():
             if not is_wanted(part, since):
                 continue
             key = files_of(files)
