@@ -1453,7 +1453,7 @@ def test_messages_into_a_file_are_joined_together(folders, older):
     answer = folders.sync("--json", "--push", "--rsh=./shell", "here.cadf", "h:there.cadf")
     assert (answer.status, answer.error, json.loads(answer.output)["taken_there"]) == (0, b"", len(union - facts(1, 2)))
     assert (folders.path / "there.cadf").read_bytes() == file_of("g", union)
-    takes = (folders.path / "calls").read_text().split().count("missing")
+    takes = (folders.path / "calls").read_text().split().count("join")
     assert takes > 2 if older else takes == 1
 
 
