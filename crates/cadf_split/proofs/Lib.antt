@@ -6,3 +6,5 @@ pub mod Dates
 pub mod Shown
 pub mod PartFiles
 pub mod Writing
+pub mod LaterDates
+pub mod WindowOrder

@@ -1,16 +1,20 @@
 //! Laws over the definitions alone. Each function's contract is a theorem, and its body is empty.
-ghost use Rattle.std.specs.Prelude.{◌≡◌, ◌↔◌, ◌⊎◌, IsTrue, map};
+ghost use Rattle.std.specs.Prelude.{◌≡◌, ◌↔◌, ◌⊎◌, IsTrue, map, ℤ};
+ghost use Rattle.std.specs.Int.Signed.{◌<ℤ◌};
+ghost use Rattle.std.specs.declared.cmp.Ordering.TheVariants.{Less};
 ghost use Rattle.cadf_join.specs.Sets as set;
 ghost use Rattle.cadf_join.specs.Sets.{Listed};
-ghost use Rattle.cadf_join.specs.Contents.{Text, Texts, Contents, Has};
+ghost use Rattle.cadf_join.specs.Contents.{Text, Texts, Contents, Has, text_cmp};
 ghost use Rattle.cadf_line.specs.Atoms.{IsGrounded};
 ghost use Rattle.cadf_line.specs.Missing.{missing, missing_by, Digests, digests_of, NoCollision};
 ghost use Rattle.cadf_atom.specs.AtomSets.{IsReplicaSet};
 ghost use Rattle.cadf_atom.specs.Contributions.{union_all};
 ghost use Rattle.cadf_set.specs.Ruled.{is_conflicted};
+ghost use Rattle.cadf_log.specs.Back.{IsBodyText};
+ghost use Rattle.cadf_log.specs.Texts.{body_instant};
 ghost use Rattle.cadf_split.specs.declared.unit.Unit.{Unit};
 ghost use Rattle.cadf_split.specs.Parts.{IsInTwoParts};
-ghost use Rattle.cadf_split.specs.Windows.{key, part, part_keys};
+ghost use Rattle.cadf_split.specs.Windows.{key, part, part_keys, day_number, IsShownDay, window, name};
 
 /// States that each atom of a set is in exactly one part, that the parts with an atom are the set together, and that
 /// each part of a replica's set is one.
@@ -52,4 +56,14 @@ pub fn missing_by_of_parts()
 pub fn conflicts_of_parts()
     ensures { (unit : Unit) (s : Contents) (letter name : Text) → IsTrue (is_conflicted s letter name)
         ↔ (((k : Text) × IsTrue (is_conflicted (part unit k s) letter name)) ⊎ IsInTwoParts (key unit) s letter name) }
+{}
+
+/// States that names and keys of windows have one order, which is that of time: the window whose name is less has the
+/// earlier instants. The instant of each body is of a year that has a name.
+pub fn windows_are_in_order_of_time()
+    ensures shown { (body : Text) → IsBodyText body → IsShownDay (day_number (body_instant body)) }
+    ensures names { (unit : Unit) (i j : ℤ) → IsShownDay (day_number i) → IsShownDay (day_number j)
+        → text_cmp (name unit (window unit i)) (name unit (window unit j)) ≡ text_cmp (window unit i) (window unit j) }
+    ensures time { (unit : Unit) (i j : ℤ) → IsShownDay (day_number i) → IsShownDay (day_number j)
+        → text_cmp (name unit (window unit i)) (name unit (window unit j)) ≡ Less → i <ℤ j }
 {}
