@@ -139,5 +139,5 @@ cmp all.cadf "$(facts north north/own.cadf)"
 # Settled folders of the same facts have the same files. The second settling removes what the first one joined.
 if [ -n "$unit" ]; then
     for each in $sites; do cadf-take --settle "$each/$site" && cadf-take --settle "$each/$site"; done
-    diff -r "north/$site" "south/$site" && diff -r "north/$site" "west/$site"
+    diff -r -x .index "north/$site" "south/$site" && diff -r -x .index "north/$site" "west/$site"
 fi

@@ -209,7 +209,9 @@ def filled(text, file=""):
     if "SITE" in text:
         shutil.copy("good.cadf", names["SITE"])
     if text.endswith("SPOOL"):
-        os.link("good.cadf" if "FILE" in text else file, os.path.join(spool, "in.cadf"))
+        arrived = "good.cadf" if "FILE" in text else file
+        put = os.link if os.stat(arrived).st_size > 2 ** 20 else shutil.copy2  # a file with two names waits, but for the caller's
+        put(arrived, os.path.join(spool, "in.cadf"))
     if text.endswith("MANY"):
         shutil.copy("many.json", spool)
     return own, names, [names.get(word, word) for word in text.split()]

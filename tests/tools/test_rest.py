@@ -185,7 +185,7 @@ def test_401_hostile_messages_keep_no_honest_one_out(place):
     assert atoms_of(*honest) <= place.site() and len(place.site() - atoms_of(*honest)) == 99
     assert place.site() | wait == atoms_of(*honest, *hostile) and not place.site() & wait and os.listdir(place.path / "spool" / "taken") == ["bus.jsonl"]
     numbers = (place.path / "m.prom").read_text()
-    assert "\ncadf_set_aside_files{" in numbers and [line.split()[1] for line in numbers.splitlines() if line.startswith(("cadf_set_aside_files{", "cadf_facts_taken{"))] == ["1099", "1"]
+    assert "\ncadf_set_aside_files{" in numbers and [line.split()[1] for line in numbers.splitlines() if line.startswith(("cadf_set_aside_files{", "cadf_facts_taken_total{"))] == ["1099", "1"]
     user, count, _, _, cause = place.lines()[waiting()]
     assert (count, cause) == ("302 facts", "302 facts wait, of 302 new windows beyond the limits")
 
