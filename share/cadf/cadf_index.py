@@ -41,9 +41,8 @@ SCHEMA = [
     "CREATE TABLE kept (kind TEXT NOT NULL, files BLOB NOT NULL, value TEXT NOT NULL, bytes INTEGER NOT NULL, read INTEGER NOT NULL,"
     " PRIMARY KEY (kind, files)) WITHOUT ROWID"]
 PRAGMAS = ("trusted_schema = off", "secure_delete = on", "temp_store = memory", "cell_size_check = on", "cache_size = -16384")
-HAS_SEVERAL = "key IN several"  # its key has several bodies
-IS_COUNTED = "(second IS NOT NULL AND initiator AND target AND others AND key NOT IN several)"  # all is known of it
-IS_ODD = "NOT " + IS_COUNTED
+IS_KNOWN = "(second IS NOT NULL AND initiator AND target AND others)"  # all of a body
+OF_SEVERAL = "(SELECT bodies.* FROM several CROSS JOIN bodies ON bodies.key = several.key)"  # the rows of keys with several bodies, by these
 KEY_BYTES, LONGEST_TEXT, LARGEST_BODY = 16, 2 ** 12, 2 ** 24
 ROWS_AT_ONCE, PATTERNS_AT_ONCE = 2 ** 14, 64
 DECODE, ENCODE = json.JSONDecoder().raw_decode, json.JSONEncoder(ensure_ascii=False).encode  # made once: that takes as long as a use
@@ -340,11 +339,25 @@ class EventIndex:
             if isinstance(found, dict) and question.has_traits(found):
                 yield number
 
-    def keys(self, part, test="1"):
-        """The keys of a window that may answer, one after another, of which a test holds: one of those above."""
-        found = self.run("SELECT DISTINCT key FROM bodies WHERE window = (SELECT id FROM windows WHERE name = ?) AND %s AND %s" % (
-            " AND ".join(self.where), test), (part, *self.words))
+    def keys(self, part):
+        """The keys of a window that may answer, one after another."""
+        found = self.run("SELECT DISTINCT key FROM bodies WHERE window = (SELECT id FROM windows WHERE name = ?) AND %s" % " AND ".join(self.where),
+                         (part, *self.words))
         return b"".join(key for key, in found)
+
+    def keys_of_several(self):
+        """The keys with several bodies of which one may answer, by window."""
+        return self.keys_by_window(OF_SEVERAL, "1")
+
+    def keys_unknown(self):
+        """The keys of bodies that may answer and of which something isn't known, by window."""
+        return self.keys_by_window("bodies", "NOT " + IS_KNOWN)
+
+    def keys_by_window(self, rows, test):
+        found, names = collections.defaultdict(set), dict(self.run("SELECT id, name FROM windows"))
+        for window, key in self.run("SELECT DISTINCT window, key FROM %s WHERE %s AND %s" % (rows, " AND ".join(self.where), test), self.words):
+            found[names[window]].add(key)
+        return found
 
     def several(self):
         """The keys that have several bodies, each with the windows that it is in."""
@@ -372,8 +385,11 @@ class EventIndex:
     def counts(self, by):
         """How many events answer, of those that can be counted, by an hour or a day, or by what they have for a pattern of this kind first."""
         column, counts = by if by in COLUMNS else "second / %d" % LENGTHS[by] if by in LENGTHS else "others", collections.Counter()
-        tests = " AND ".join([*self.where, IS_COUNTED])
-        for number, count in self.run("SELECT %s, count(*) FROM bodies WHERE %s GROUP BY 1" % (column, tests), self.words):
+        numbers, tests = collections.Counter(), " AND ".join([*self.where, IS_KNOWN])
+        for rows, sign in (("bodies", 1), (OF_SEVERAL, -1)):  # which costs less than to look for each key among those of several
+            for number, count in self.run("SELECT %s, count(*) FROM %s WHERE %s GROUP BY 1" % (column, rows, tests), self.words):
+                numbers[number] += sign * count
+        for number, count in (+numbers).items():
             if by in LENGTHS:
                 counts[utc(number * LENGTHS[by] * SECOND)] = count
             else:

@@ -41,14 +41,18 @@ class Plan(Windows):
         self.question, self.site, self.unit, self.head, self.split = question, site, site.unit, b"L %s\n" % site.log.encode(), ([], {})
         index.ask(question)
         self.counts = index.counts(count_by) if count_by and question.is_indexed and not is_only_open else None
-        test = cadf_index.HAS_SEVERAL if is_only_open else "1" if self.counts is None else cadf_index.IS_ODD
-        is_narrow = test != "1" or bool(question.patterns.keys() - (set() if question.has_ids else {"id"}))
-        self.keys, several, known = {}, set(), index.several()
+        is_narrow = bool(question.patterns.keys() - (set() if question.has_ids else {"id"}))
+        self.keys, several, known, of_several = {}, set(), index.several(), index.keys_of_several()
+        unknown = {} if self.counts is None else index.keys_unknown()
         for part in self.within(question.limits, [part for part in site.parts() if part != SHARED]):
-            keys = index.keys(part, test) if is_narrow else None
+            own = of_several.get(part, set())
+            if is_only_open or self.counts is not None:
+                keys = b"".join(own | unknown.get(part, set()))
+            else:
+                keys = index.keys(part) if is_narrow else None
             if keys != b"":
                 self.keys[part] = keys
-                several |= keys_of(index.keys(part, cadf_index.HAS_SEVERAL))
+                several |= own
         self.several = {key: known[key] for key in several}
         self.apart = {key for key, parts in self.several.items() if len(parts) > 1}
         self.open = {part for parts in self.several.values() if len(parts) == 1 for part in parts}

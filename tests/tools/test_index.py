@@ -91,8 +91,8 @@ def test_keys_and_counts(tmp_path, seed):
             for part, own in windows.items():
                 answering = {key(each) for each in own if answers(options, each)}
                 assert keys_in(index.keys(part)) == answering, (options, part)
-                assert keys_in(index.keys(part, cadf_index.IS_ODD)) == {key(each) for each in own if answers(options, each) and counts[each["id"]] > 1}
-                assert keys_in(index.keys(part, cadf_index.IS_ODD)) == keys_in(index.keys(part, cadf_index.HAS_SEVERAL))
+                assert index.keys_of_several().get(part, set()) == {key(each) for each in own if answers(options, each) and counts[each["id"]] > 1}
+            assert index.keys_unknown() == {}
             plain = [each for each in every if answers(options, each) and counts[each["id"]] == 1]
             for by in ("action", "outcome", "type"):
                 assert index.counts(by) == collections.Counter(traits(each)[by].pop() for each in plain)
@@ -140,7 +140,7 @@ def test_what_is_not_known_may_answer(tmp_path, monkeypatch):
         def check(index, site):
             index.ask(posed([("--action", "read"), ("--since", "2024-03-01"), ("--initiator", "alice")]))
             least = {key(each) for each in bodies_of(atoms) if answers([("--action", "read"), ("--since", "2024-03-01"), ("--initiator", "alice")], each)}
-            assert least <= set().union(*(keys_in(index.keys(part, cadf_index.IS_ODD)) for part in site.parts())) and not index.counts("action")
+            assert least <= set().union(*index.keys_unknown().values()) and not index.counts("action")
             return True
 
         assert planned(folder, check)
