@@ -141,7 +141,7 @@ class Row:
             return "refused"
         if self.name == "feed":
             return "refused" if answer in self.closed_feeds() else None
-        if (self.call in WRITES or self.name.startswith("run_")) and answer.startswith("err\t"):
+        if (self.call in WRITES or self.name.startswith(("run_", "ask_"))) and answer.startswith("err\t"):
             _, fault, *written = fields.read(answer)
             return "refused" if len(written) < 2 and self.is_front(fault, b"".join(written)) else None
         if not answer.startswith("err\tMemory\t"):
