@@ -1,5 +1,6 @@
 //! What a call answers: a status, and a text in the caller's buffer.
 ghost use Rattle.std.specs.Prelude.{◌≡◌, ◌≤◌, ◌⊎◌, length as length_of, true, pos, Ok, Err, IfOk, IfErr, IsErrAnd, ℕ, List, Result};
+ghost use Rattle.cadf_arguments.specs.Arguments.{argument_status_of};
 ghost use Rattle.cadf_arguments.specs.declared.fault.ArgumentFault.{ArgumentFault};
 ghost use Rattle.cadf_tool.specs.Faults.{status_of};
 ghost use Rattle.cadf_tool.specs.Request.{accepts};
@@ -29,7 +30,8 @@ fn hand_out(text: &[u8], output: &mut [u8], length: &mut usize)
 /// Answers that an argument is refused, or that there was no memory.
 #[tactic(auto, using(crate::proofs::Statuses::refusal_told))]
 pub(crate) fn refuse(fault: ArgumentFault, output: &mut [u8], length: &mut usize) -> i32
-    ensures { (asked : Result Request ArgumentFault) (inputs : List (List ℕ)) → IsAsked asked (Err fault)
+    ensures status { result ≡ pos (argument_status_of fault) }
+    ensures told { (asked : Result Request ArgumentFault) (inputs : List (List ℕ)) → IsAsked asked (Err fault)
         → IsCall asked inputs result output.old output.new length.new }
 {
     hand_out(fault.text().as_bytes(), output, length);

@@ -8,4 +8,4 @@ use Rattle.cadf_c.proofs.cadf_prove.Goals as goal
 pub returns-in-Err : goal.returns-in-Err
 returns-in-Err c =
     subst (λ s. IsCall (Ok ask.Prove) (c.args.facts.now.bytes.now ∷ bytes_in c.args.inputs.now) s c.args.output.now c.refuse.new.output c.refuse.new.length)
-    (sym (to_z-of_z w32 c.refuse.result (search rules))) (c.refuse.ensures _ _ (inl refl))
+    (sym (to_z-of_z w32 c.refuse.result (search rules))) (c.refuse.ensures.told _ _ (inl refl))
