@@ -1,19 +1,7 @@
 -- What the words of a command line ask can be asked of as many files as they name.
-use Rattle.std.proofs.Common.{◌≡◌, ℕ, true, List, [], ◌∷◌, length, Option, Some, None, Ok, Err, ok_or, IfOk, IsSomeAnd, refl, ap, arith}
-use Rattle.std.proofs.lemmas.Bool.{le-leb, lt-ltb}
-use Rattle.std.proofs.lemmas.List.{length-append, length-map}
-use Rattle.clap.specs.Walk.{Row, Text}
-use Rattle.cadf_arguments.specs.Arguments.{is_place, is_site_count, unit_named}
-use Rattle.cadf_arguments.specs.declared.fault.ArgumentFault.TheVariants.{LogName, Sites, Key, Place, Cells, Salt, Unit as NoUnit}
-use Rattle.cadf_sketch.specs.Layouts.{are_cells, is_salt}
-use Rattle.cadf_tool.specs.Request.{accepts}
-use Rattle.cadf_tool.specs.declared.request.Request.{Request as Asked}
+use Rattle.cadf.proofs.Common.{◌≡◌, ℕ, true, List, [], ◌∷◌, length, Option, Some, None, Ok, Err, ok_or, IfOk, IsSomeAnd, refl, ap, arith, le-leb, lt-ltb, length-append, length-map, Row, is_place, is_site_count, unit_named, LogName, Sites, Key, Place, Cells, Salt, NoUnit, are_cells, is_salt, accepts, Asked, Request, Join, Split, Missing, MissingBy, Inventory, Sketch, MissingBySketch, Seal, Prove, Verify, Rule, Rehearse, Show, Check, IsAsked, MakesRequest, Reading, ◌>>=◌, IsAccepted, if_given, letter_of, name_of, number_of, texts}
+use Rattle.clap.specs.Walk.{Text}
 use Rattle.cadf_tool.specs.declared.request.Request.TheVariants as ask
-use Rattle.cadf_words.specs.declared.request.Request.{Request}
-use Rattle.cadf_words.specs.declared.request.Request.TheVariants.{Join, Split, Missing, MissingBy, Inventory, Sketch, MissingBySketch}
-use Rattle.cadf_words.specs.declared.request.Request.TheVariants.{Seal, Prove, Verify, Rule, Rehearse, Show, Check}
-use Rattle.cadf_words.specs.Synopsis.{IsAsked, MakesRequest}
-use Rattle.cadf.specs.Asked.{Reading, ◌>>=◌, IsAccepted, if_given, letter_of, name_of, number_of, texts}
 
 -- what is asked by one word, two or three, once they are read
 one : {A : Type 0} (r : Reading A) (f : A → Asked) (n : ℕ) → ((a : A) → accepts (f a) n ≡ true)

@@ -1,3 +1,4 @@
 pub mod Accepted
+pub mod Common
 pub mod Opening
 pub mod Words

@@ -1,17 +1,5 @@
 -- Files are opened one after another, and a fault is told.
-use Rattle.std.proofs.Common.{◌≡◌, ◌+◌, ◌<◌, ℕ, Bool, true, false, List, [], ◌∷◌, ◌++◌, map, take, drop, length, get_or, Option, Some, None, option_map, refl, sym, ap, ◌∙◌, add-one}
-use Rattle.std.proofs.Common.{append_assoc, take-suc, drop-cons}
-use Rattle.std.proofs.Common.{Result, Ok, Err, MatchResult, IsErrAnd}
-use Rattle.std.specs.Borrow.{Bor}
-use Rattle.std.specs.Result.{result_map_both}
-use Rattle.std.proofs.lemmas.List.{length-map, map-append, take-append-drop}
-use Rattle.cadf_tool.specs.Inputs.{SourceState}
-use Rattle.cadf_tool.specs.declared.fault.ToolFault.{ToolFault}
-use Rattle.cadf_tool.specs.declared.fault.ToolFault.TheVariants.{ReadFault, Memory}
-use Rattle.cadf.specs.declared.stop.Stop.{Stop}
-use Rattle.cadf.specs.declared.stop.Stop.TheVariants.{Tool}
-use Rattle.cadf.specs.Asked.{Word, texts}
-use Rattle.cadf.specs.Opened.{OpenerState, and_asked, each_opened, unread, AreOpened, IsUnopened}
+use Rattle.cadf.proofs.Common.{◌≡◌, ◌+◌, ◌<◌, ℕ, Bool, true, false, List, [], ◌∷◌, ◌++◌, map, take, drop, length, get_or, Option, Some, None, option_map, refl, sym, ap, ◌∙◌, add-one, append_assoc, take-suc, drop-cons, Result, Ok, Err, MatchResult, IsErrAnd, Bor, result_map_both, length-map, map-append, take-append-drop, SourceState, ToolFault, ReadFault, Memory, Stop, Tool, Word, texts, OpenerState, and_asked, each_opened, unread, AreOpened, IsUnopened}
 
 -- ---- what is asked of an opener
 

@@ -1,20 +1,5 @@
 -- Words of a command line that are numbers and letters.
-use Rattle.std.proofs.Common.{◌≡◌, ◌≢◌, ℕ, zero, suc, ◌<◌, ◌≤◌, Bool, true, false, ◌&&◌, if◌then◌else◌, nat_le, nat_lt, ltb, List, [], ◌∷◌, ◌++◌, get_or, Some, None}
-use Rattle.std.proofs.Common.{Result, Ok, Err, is_ok, IfOk, IfErr, refl, sym, ap, ◌∙◌, arith, true≢false, bytes_eq}
-use Rattle.std.specs.Prelude.{◌^◌, decimal, encode_utf8}
-use Rattle.std.specs.Result.{result_ok}
-use Rattle.std.specs.Char.{IsScalar}
-use Rattle.std.specs.Str.Parse.{AllDigits, digits_value, ParsesUnsigned}
-use Rattle.std.proofs.lemmas.Bool.{and_parts, and_from, leb-true, ltb-true, ltb-false, le-leb, lt-ltb}
-use Rattle.std.proofs.lemmas.Str.{encode_ascii, encode_same}
-use Rattle.std.proofs.lemmas.Str.Parse.{IsNumeralModel, numerals_by_value, tells_digits, parse_plain}
-use Rattle.std.proofs.lemmas.Fmt.{decimal-digits_value, parse-decimal, first_decimal, decimal_digit}
-use Rattle.std.proofs.lemmas.Slice.Eq.{bytes_eq-Decides}
-use Rattle.cadf_arguments.specs.declared.fault.ArgumentFault.TheVariants.{Letter}
-use Rattle.cadf_join.specs.Contents.{Text}
-use Rattle.cadf_line.specs.RulingTexts.{is_value_letter}
-use Rattle.cadf_atom.proofs.RulingTexts.{value_letter_is}
-use Rattle.cadf.specs.Asked.{Reading, letter_of, number_in}
+use Rattle.cadf.proofs.Common.{◌≡◌, ◌≢◌, ℕ, zero, suc, ◌<◌, ◌≤◌, Bool, true, false, ◌&&◌, if◌then◌else◌, nat_le, nat_lt, ltb, List, [], ◌∷◌, ◌++◌, get_or, Some, None, Result, Ok, Err, is_ok, IfOk, IfErr, refl, sym, ap, ◌∙◌, arith, true≢false, bytes_eq, ◌^◌, decimal, encode_utf8, result_ok, IsScalar, AllDigits, digits_value, ParsesUnsigned, and_parts, and_from, leb-true, ltb-true, ltb-false, le-leb, lt-ltb, encode_ascii, encode_same, IsNumeralModel, numerals_by_value, tells_digits, parse_plain, decimal-digits_value, parse-decimal, first_decimal, decimal_digit, bytes_eq-Decides, Letter, Text, is_value_letter, value_letter_is, Reading, letter_of, number_in}
 
 own : IsNumeralModel (AllDigits 10) (digits_value 10)
 own = numerals_by_value _ tells_digits

@@ -1,2 +1,3 @@
-pub mod Statuses
+pub mod Common
 pub mod Names
+pub mod Statuses

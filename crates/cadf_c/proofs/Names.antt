@@ -1,12 +1,5 @@
 -- Bytes that spell a name.
-use Rattle.std.proofs.Common.{◌≡◌, Bool, true, false, ◌&&◌, if◌then◌else◌, ℕ, List, Result, Ok, Err, IfOk, IfErr, refl, sym, ap, ◌∙◌, inl, inr}
-use Rattle.std.specs.Prelude.{IsUtf8}
-use Rattle.std.specs.Str.{is_utf8}
-use Rattle.std.proofs.lemmas.Str.{is_utf8-from_IsUtf8, IsUtf8-from_is_utf8}
-use Rattle.cadf_event.specs.Names.{is_name}
-use Rattle.cadf_arguments.specs.declared.fault.ArgumentFault.{ArgumentFault}
-use Rattle.cadf_arguments.specs.declared.fault.ArgumentFault.TheVariants.{Memory}
-use Rattle.cadf_c.specs.Arguments.{spells_name, unless, IsAsked}
+use Rattle.cadf_c.proofs.Common.{◌≡◌, Bool, true, false, ◌&&◌, if◌then◌else◌, ℕ, List, Result, Ok, Err, IfOk, IfErr, refl, sym, ap, ◌∙◌, inl, inr, IsUtf8, is_utf8, is_utf8-from_IsUtf8, IsUtf8-from_is_utf8, is_name, ArgumentFault, Memory, spells_name, unless, IsAsked}
 
 module _ (bytes : List ℕ) (refusal : ArgumentFault) where
   abbrev pub name_asked : Bool → Result (List ℕ) ArgumentFault

@@ -1,18 +1,6 @@
 -- Which statuses faults have, and what is told with each.
-use Rattle.std.proofs.Common.{◌≡◌, ◌≤◌, ◌⊎◌, inl, inr, ℕ, List, length, true, true≢false, refl, sym, ap, ◌∙◌, subst, Result, Ok, Err, IfOk, IfErr, IsErrAnd}
-use Rattle.std.proofs.Common.{ℤ, pos, arith}
-use Rattle.cadf_arguments.specs.declared.fault.ArgumentFault.{ArgumentFault}
-use Rattle.cadf_arguments.specs.declared.fault.ArgumentFault.TheVariants.{LogName, Sites, Letter, Key, Place, Cells, Salt, Unit as NoUnit, Memory as NoMemory}
-use Rattle.cadf_arguments.specs.Arguments.{argument_status_of, argument_text_of}
-use Rattle.cadf_tool.specs.declared.fault.ToolFault.{ToolFault}
-use Rattle.cadf_tool.specs.declared.fault.ToolFault.TheVariants.{Input, NoLog, OtherLog, NoFacts, TooFewCells, Script, Rehearse, NoValue, Unverified}
-use Rattle.cadf_tool.specs.declared.fault.ToolFault.TheVariants.{ReadFault, WriteFault, Memory}
-use Rattle.cadf_tool.specs.declared.request.Request.{Request}
-use Rattle.cadf_tool.specs.Faults.{status_of}
-use Rattle.cadf_memory.specs.Handed.{IsHandedOut}
-use Rattle.cadf_memory.specs.Made.{IsMadeFor, IsFirstFor, is_of_memory}
-use Rattle.cadf_c.specs.Arguments.{IsAsked}
-use Rattle.cadf_c.specs.Statuses.{IsRefused, IsCall}
+use Rattle.cadf_c.proofs.Common.{◌≡◌, ◌≤◌, ◌⊎◌, inl, inr, ℕ, List, length, true, true≢false, refl, sym, ap, ◌∙◌, subst, Result, Ok, Err, IfOk, IfErr, IsErrAnd, ℤ, pos, arith, ArgumentFault, LogName, Sites, Letter, Key, Place, Cells, Salt, NoUnit, NoMemory, argument_status_of, argument_text_of, ToolFault, Input, NoLog, OtherLog, NoFacts, TooFewCells, Script, Rehearse, NoValue, Unverified, ReadFault, WriteFault, Request, status_of, IsHandedOut, IsMadeFor, IsFirstFor, is_of_memory, IsAsked, IsRefused, IsCall}
+use Rattle.cadf_tool.specs.declared.fault.ToolFault.TheVariants.{Memory}
 
 -- where no read and no write fails
 pub one_or_four : (fault : ToolFault) → is_of_memory fault ≡ true → (status_of fault ≡ 1) ⊎ (status_of fault ≡ 4)

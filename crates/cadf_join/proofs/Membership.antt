@@ -1,15 +1,6 @@
 -- One line of membership for each set that the contracts name.
-use Rattle.std.proofs.Common.{◌≡◌, Bool, [], ◌∷◌, true, false, refl, sym, ap, subst, ◌∙◌}
-use Rattle.std.specs.Prelude.{◌↔◌, ◌≢◌, ◌&&◌}
-use mathlib.Core.Bool.{true≢false}
+use Rattle.cadf_join.proofs.Common.{◌≡◌, Bool, [], ◌∷◌, true, false, refl, sym, ap, subst, ◌∙◌, ◌↔◌, ◌≢◌, ◌&&◌, true≢false, Text, Texts, TextSetValue, Contents, Has, under, suffixes_of, singles, text_total, text_same, contains-under, empty_list-under, contains-section, contains-singles, empty_list-singles, longer-singles, MapValue, heads, held, contents_at, chains, empty_list-chains, contains-chains, empty_list-joined, contains-joined, head_has, has_head}
 use Rattle.std.specs.FinMap as fin
-use Rattle.cadf_join.specs.Contents.{Text, Texts, TextSetValue, Contents, Has, under, suffixes_of, singles}
-use Rattle.cadf_join.specs.laws.Contents.{text_total, text_same, contains-under, empty_list-under, contains-section, contains-singles}
-use Rattle.cadf_join.specs.laws.Contents.{empty_list-singles, longer-singles}
-use Rattle.cadf_join.specs.Maps.{MapValue, heads, held, contents_at}
-use Rattle.cadf_join.specs.Prefixes.{chains}
-use Rattle.cadf_join.specs.laws.Chains.{empty_list-chains, contains-chains}
-use Rattle.cadf_join.specs.laws.Maps.{empty_list-joined, contains-joined, head_has, has_head}
 use Rattle.cadf_join.proofs.Members as members
 
 not_false : {A : Type 0} {b : Bool} → b ≡ false → b ≡ true → A

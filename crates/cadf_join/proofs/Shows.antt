@@ -1,7 +1,6 @@
 -- The lists that a visitor has visited so far, of all that it is to visit.
 --     Shown takes old new rest all     visiting all lists but the rest leads from the old state to the new one
-use Rattle.std.proofs.Common.{◌≡◌, List, [], ◌++◌, sym, ap, subst, ◌∙◌, append_assoc}
-use Rattle.cadf_join.specs.Contents.{Texts}
+use Rattle.cadf_join.proofs.Common.{◌≡◌, List, [], ◌++◌, sym, ap, subst, ◌∙◌, append_assoc, Texts}
 
 pub record Shown {S : Type 0} (takes : S → List Texts → S → Type 0) (old new : S) (rest all : List Texts) : Type 0 where
   pub done : List Texts

@@ -1,17 +1,8 @@
 -- Members that are put in the order of their names: the entry of each.
-use Rattle.std.proofs.Common.{◌≡◌, ℕ, ◌≤◌, List, [], ◌∷◌, ◌++◌, length, refl, sym, ap, ◌∙◌, subst, arith}
-use Rattle.std.proofs.Common.{Ordering, Less, Equal, Greater, nat_cmp}
+use Rattle.cadf_json.proofs.Common.{◌≡◌, ℕ, ◌≤◌, List, [], ◌∷◌, ◌++◌, length, refl, sym, ap, ◌∙◌, subst, arith, Ordering, Less, Equal, Greater, nat_cmp, match_ordering, slice_cmp, Data, Members, no_members, member, put, Node, Named, FirstMember, MembersStand, put_all, Entry, AreNamed, put_named, IsFirstMember}
 use Rattle.std.specs.FinMap.Entries as entries
-use Rattle.std.specs.Ordering.{match_ordering}
-use Rattle.std.specs.Cmp.Lexicographic.{slice_cmp}
-use Rattle.serde_json.specs.Data.{Data, Members, no_members, member, put}
 use Rattle.cadf_json.proofs.Firsts.{no_member}
 use Rattle.cadf_json.proofs.Splits.{same_name}
-use Rattle.cadf_json.specs.declared.node.Node.{Node}
-use Rattle.cadf_json.specs.declared.order.Named.{Named}
-use Rattle.cadf_json.specs.declared.walk.FirstMember.{FirstMember}
-use Rattle.cadf_json.specs.Flat.{MembersStand, put_all}
-use Rattle.cadf_json.specs.Reading.{Entry, AreNamed, put_named, IsFirstMember}
 
 abbrev pub name_cmp : List ℕ → List ℕ → Ordering
 name_cmp = slice_cmp nat_cmp

@@ -1,15 +1,5 @@
 -- Nodes that are copied with members in order: the loops over items and over members.
-use Rattle.std.proofs.lemmas.Grind.{common_steps}
-use Rattle.std.proofs.Common.{◌≡◌, ℕ, ◌+◌, ◌-◌, ◌<◌, ◌≤◌, List, [], ◌∷◌, ◌++◌, length, set, drop, refl, sym, ap, ◌∙◌, subst, arith, inl, inr}
-use Rattle.std.proofs.Common.{append_assoc, append-nil, length-append}
-use Rattle.std.specs.Prelude.{slice_index_or}
-use Rattle.serde_json.specs.Data.{Data, null, boolean, number, string, array, object, Items, no_items, Members, no_members, member}
-use Rattle.cadf_json.specs.declared.node.Extent.{Extent}
-use Rattle.cadf_json.specs.declared.node.Place.{Place}
-use Rattle.cadf_json.specs.declared.node.Node.{Node}
-use Rattle.cadf_json.specs.declared.node.Node.TheVariants.{Null, Bool as Truth, Whole, Fraction, Text, Array, Object}
-use Rattle.cadf_json.specs.Flat.{IsTextAt, Stands, ItemsStand, MembersStand, items_count, members_count, put_all, settled, settled_items, settled_members}
-use Rattle.cadf_json.specs.Reading.{Entry, Copied, AreNamed}
+use Rattle.cadf_json.proofs.Common.{common_steps, ◌≡◌, ℕ, ◌+◌, ◌-◌, ◌<◌, ◌≤◌, List, [], ◌∷◌, ◌++◌, length, set, drop, refl, sym, ap, ◌∙◌, subst, arith, inl, inr, append_assoc, append-nil, length-append, slice_index_or, Data, null, boolean, number, string, array, object, Items, no_items, Members, no_members, member, Extent, Place, Node, Null, Truth, Whole, Fraction, Text, Array, Object, IsTextAt, Stands, ItemsStand, MembersStand, items_count, members_count, put_all, settled, settled_items, settled_members, Entry, Copied, AreNamed}
 use Rattle.cadf_json.proofs.Firsts.{FirstItem, no_item, tail_of, tail_is}
 use Rattle.cadf_json.proofs.Loops.{closed_at, size_is}
 use Rattle.cadf_json.proofs.Orders.{joined, joined-none, joined-one}

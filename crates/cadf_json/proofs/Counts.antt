@@ -1,13 +1,5 @@
 -- The first node of a list or an object has the count of its items or members.
-use Rattle.std.proofs.lemmas.Grind.{common_steps}
-use Rattle.std.proofs.Common.{◌≡◌, ℕ, suc, List, length, refl, sym, ap, ◌∙◌, arith}
-use Rattle.std.specs.Prelude.{slice_index_or}
-use Rattle.serde_json.specs.Data.{Data, Items, no_items, item, Members, no_members, member}
-use Rattle.cadf_json.specs.Parts.{to_list, values_of, parts_in}
-use Rattle.cadf_json.specs.declared.node.Extent.{Extent}
-use Rattle.cadf_json.specs.declared.node.Node.{Node}
-use Rattle.cadf_json.specs.declared.node.Node.TheVariants.{Null, Bool as Truth, Whole, Fraction, Text, Array, Object}
-use Rattle.cadf_json.specs.Flat.{Stands, items_count, members_count}
+use Rattle.cadf_json.proofs.Common.{common_steps, ◌≡◌, ℕ, suc, List, length, refl, sym, ap, ◌∙◌, arith, slice_index_or, Data, Items, no_items, item, Members, no_members, member, to_list, values_of, parts_in, Extent, Node, Null, Truth, Whole, Fraction, Text, Array, Object, Stands, items_count, members_count}
 
 count_items : (ds : Items) → items_count ds ≡ length (to_list ds)
 count_items no_items = refl

@@ -1,17 +1,7 @@
 -- The value that nodes are is determined by them, and so is whether a number of it isn't whole.
-use Rattle.std.proofs.lemmas.Grind.{common_steps}
-use Rattle.std.proofs.Common.{◌≡◌, ℕ, List, [], ◌++◌, Bool, false, ◌||◌, refl, sym, ap, ap₂, ◌∙◌, subst, inl, inr, append_assoc, append-nil, arith}
-use Rattle.std.proofs.lemmas.Bool.{or_parts}
-use Rattle.std.proofs.Math.Bool.{or-false}
-use Rattle.serde_json.specs.Data.{Num, Data, null, boolean, number, string, array, object, Items, no_items, item, Members, no_members, member}
-use Rattle.serde_json.specs.Find.{is_float}
-use Rattle.serde_json.specs.Written.{has_float, items_have_float, members_have_float}
-use Rattle.cadf_json.specs.Value.{IsWholeNumber, IsWhole, IsValue}
+use Rattle.cadf_json.proofs.Common.{common_steps, ◌≡◌, ℕ, List, [], ◌++◌, Bool, false, ◌||◌, refl, sym, ap, ap₂, ◌∙◌, subst, inl, inr, append_assoc, append-nil, arith, or_parts, or-false, Num, Data, null, boolean, number, string, array, object, Items, no_items, item, Members, no_members, member, is_float, has_float, items_have_float, members_have_float, IsWholeNumber, IsWhole, IsValue, Node, text_at, NumberStands, Stands, ItemsStand, MembersStand, items_count, members_count, first_items, later_items, first_members, later_members, node_values, first_value, decode, have_fraction, IsSettled, IsFlatValue}
 use Rattle.cadf_json.proofs.Passing.{followed}
 use Rattle.cadf_json.proofs.Texts.{number_in_is, has_float-IsWhole}
-use Rattle.cadf_json.specs.declared.node.Node.{Node}
-use Rattle.cadf_json.specs.Flat.{text_at, NumberStands, Stands, ItemsStand, MembersStand, items_count, members_count}
-use Rattle.cadf_json.specs.Flat.{first_items, later_items, first_members, later_members, node_values, first_value, decode, have_fraction, IsSettled, IsFlatValue}
 
 first_followed : (ds es : Items) → first_items (items_count ds) (followed ds es) ≡ ds
 first_followed no_items es = refl

@@ -1,11 +1,5 @@
 -- How deep the parts of a value nest, and how many they are, lists and objects counted twice.
-use Rattle.std.proofs.Common.{◌≡◌, ℕ, suc, ◌+◌, ◌≤◌, max, is_some, true, List, length, ap, arith, length-append}
-use Rattle.std.proofs.lemmas.Grind.{common_steps}
-use Rattle.serde_json.specs.Data.{Data, null, boolean, number, string, array, object, Items, no_items, item, Members, no_members, member, depth, items_depth, members_depth}
-use Rattle.cadf_json.specs.declared.node.Node.{Node}
-use Rattle.cadf_json.specs.Flat.{Stands, ItemsStand, MembersStand}
-use Rattle.serde_json.specs.Find.{as_array}
-use Rattle.cadf_json.specs.Parts.{is_object, items_in, members_in}
+use Rattle.cadf_json.proofs.Common.{◌≡◌, ℕ, suc, ◌+◌, ◌≤◌, max, is_some, true, List, length, ap, arith, length-append, common_steps, Data, null, boolean, number, string, array, object, Items, no_items, item, Members, no_members, member, depth, items_depth, members_depth, Node, Stands, ItemsStand, MembersStand, as_array, is_object, items_in, members_in}
 
 abbrev mutual
   pub weight : Data → ℕ

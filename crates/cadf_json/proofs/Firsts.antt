@@ -1,16 +1,5 @@
 -- The first of several values: how many nodes it has.
-use Rattle.std.proofs.lemmas.Grind.{common_steps}
-use Rattle.std.proofs.Common.{◌≡◌, ℕ, suc, ◌+◌, ◌-◌, ◌<◌, ◌≤◌, List, [], ◌∷◌, ◌++◌, length, take, drop, refl, sym, ap, ap₂, ◌∙◌, arith, append-nil}
-use Rattle.std.proofs.Common.{length-append, take_all}
-use Rattle.std.proofs.Math.Seq.{take-append_seam, drop-append_seam}
-use Rattle.std.specs.Prelude.{slice_index_or}
-use Rattle.serde_json.specs.Data.{Num, Data, null, boolean, number, string, array, object, Items, no_items, item, Members, no_members, member}
-use Rattle.cadf_json.specs.declared.node.Node.{Node}
-use Rattle.cadf_json.specs.declared.node.Node.TheVariants.{Null, Bool as Truth, Text, Array, Object}
-use Rattle.cadf_json.specs.declared.node.Place.{Place}
-use Rattle.cadf_json.specs.declared.walk.FirstMember.{FirstMember}
-use Rattle.cadf_json.specs.Flat.{size_of, IsTextAt, NumberStands, Stands, ItemsStand, MembersStand, text_at}
-use Rattle.cadf_json.specs.Reading.{IsFirstMember}
+use Rattle.cadf_json.proofs.Common.{common_steps, ◌≡◌, ℕ, suc, ◌+◌, ◌-◌, ◌<◌, ◌≤◌, List, [], ◌∷◌, ◌++◌, length, take, drop, refl, sym, ap, ap₂, ◌∙◌, arith, append-nil, length-append, take_all, take-append_seam, drop-append_seam, slice_index_or, Num, Data, null, boolean, number, string, array, object, Items, no_items, item, Members, no_members, member, Node, Null, Truth, Text, Array, Object, Place, FirstMember, size_of, IsTextAt, NumberStands, Stands, ItemsStand, MembersStand, text_at, IsFirstMember}
 
 abbrev pub tail_of : List Node → List Node
 tail_of xs = take (length xs - 1) (drop 1 xs)

@@ -1,12 +1,5 @@
 -- First bytes as numbers: what is less as a number is less as a text.
-use Rattle.std.proofs.lemmas.Grind.{common_steps}
-use Rattle.std.proofs.Common.{◌≡◌, ℕ, zero, suc, ◌+◌, ◌*◌, ◌^◌, ◌<◌, List, [], ◌∷◌, get_or, refl, sym, ap, arith}
-use Rattle.std.proofs.Common.{Ordering, Less, Equal, Greater, nat_cmp}
-use Rattle.std.proofs.lemmas.Nat.{mul-le}
-use Rattle.std.proofs.Math.Nat.{add-mul, pow-succ'}
-use Rattle.std.specs.Ordering.{ordering_then}
-use Rattle.std.specs.Cmp.Lexicographic.{slice_cmp}
-use Rattle.cadf_json.specs.Fronts.{first_bytes, AreBytes, IsFront}
+use Rattle.cadf_json.proofs.Common.{common_steps, ◌≡◌, ℕ, zero, suc, ◌+◌, ◌*◌, ◌^◌, ◌<◌, List, [], ◌∷◌, get_or, refl, sym, ap, arith, Ordering, Less, Equal, Greater, nat_cmp, mul-le, add-mul, pow-succ', ordering_then, slice_cmp, first_bytes, AreBytes, IsFront}
 use Rattle.cadf_json.proofs.Orders.{greater-from_less}
 
 pub front_bytes : (s : List ℕ) → get_or s 0 0 * 256 ^ 7 + get_or s 1 0 * 256 ^ 6 + get_or s 2 0 * 256 ^ 5 + get_or s 3 0 * 256 ^ 4 + get_or s 4 0 * 256 ^ 3

@@ -1,7 +1,5 @@
 -- Properties of an optional value, if there is one.
-use Rattle.std.proofs.lemmas.Grind.{common_steps}
-use Rattle.std.proofs.Common.{Option, Some, None, option_map, option_and_then, arith}
-use Rattle.std.specs.Prelude.{⊤}
+use Rattle.cadf_json.proofs.Common.{common_steps, Option, Some, None, option_map, option_and_then, arith, ⊤}
 
 -- the value, if there is one, has the property
 abbrev pub Given : {A : Type 0} → (A → Type 0) → Option A → Type 0

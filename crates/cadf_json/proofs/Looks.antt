@@ -1,13 +1,7 @@
 -- A member by its name.
-use Rattle.std.proofs.lemmas.Grind.{common_steps}
-use Rattle.std.proofs.Common.{◌≡◌, ℕ, List, Option, Some, true, false, bytes_eq, is_eq, Ordering, nat_cmp, ◌∙◌, arith}
-use Rattle.std.proofs.lemmas.Map.Text.{is_eq-slice_cmp}
-use Rattle.std.specs.Cmp.Lexicographic.{slice_cmp}
-use Rattle.std.specs.Ordering.{match_ordering}
-use Rattle.serde_json.specs.Data.{Data, Members, member}
-use Rattle.serde_json.specs.Find.{get, get_member}
+use Rattle.cadf_json.proofs.Common.{common_steps, ◌≡◌, ℕ, List, Option, Some, true, false, bytes_eq, Ordering, nat_cmp, ◌∙◌, arith, is_eq-slice_cmp, slice_cmp, match_ordering, Data, Members, member, get, get_member, members_in}
+use Rattle.std.proofs.Common.{is_eq}
 use Rattle.cadf_json.proofs.Rewriting.{pass_by}
-use Rattle.cadf_json.specs.Parts.{members_in}
 
 here_at : (o : Ordering) (a : Option Data) (e : Data) → is_eq o ≡ true → match_ordering o a (Some e) a ≡ Some e
 here_at o a e h = grind (arith, common_steps)

@@ -1,27 +1,9 @@
 -- The loops of the descent: items and members, appended as they are read.
-use Rattle.std.proofs.lemmas.Grind.{common_steps}
-use Rattle.std.proofs.Common.{◌≡◌, ℕ, zero, suc, ◌+◌, ◌-◌, ◌<◌, ◌≤◌, List, [], ◌∷◌, ◌++◌, length, set, Bool, true, ◌&&◌, Option, Some, None, option_map, refl, sym, ap, ap₂, ◌∙◌, subst, arith, append_assoc, append-nil, length-append}
-use Rattle.std.proofs.Common.{Ordering, Less, nat_cmp}
-use Rattle.std.specs.Cmp.Lexicographic.{slice_cmp}
-use Rattle.std.proofs.Math.Seq.{set-append_seam}
-use Rattle.json.specs.Token.{Token}
+use Rattle.cadf_json.proofs.Common.{common_steps, ◌≡◌, ℕ, zero, suc, ◌+◌, ◌-◌, ◌<◌, ◌≤◌, List, [], ◌∷◌, ◌++◌, length, set, Bool, true, ◌&&◌, Option, Some, None, option_map, refl, sym, ap, ap₂, ◌∙◌, subst, arith, append_assoc, append-nil, length-append, Ordering, Less, nat_cmp, slice_cmp, set-append_seam, Token, Parse, parse_map, after_end_array, read_key, items, members, value, opens, items_fail, items_more, members_fail, members_more, members_no_key, Data, array, object, Items, no_items, Members, no_members, member, put, of_json, of_items, of_members, converted, is_name_above, and_parts, is_lt, Node, Null, Text, Array, Object, Extent, IsTextAt, TextStands, ItemsStand, MembersStand, items_count, members_count, put_all, settled_items, settled_members, Grown, StandsAsRead}
 use Rattle.json.specs.Json as json
-use Rattle.json.specs.Json.{Parse, parse_map, after_end_array, read_key, items, members, value}
-use Rattle.json.specs.Reads.{opens}
-use Rattle.json.proofs.Grammar.{items_fail, items_more, members_fail, members_more, members_no_key}
-use Rattle.serde_json.specs.Data.{Data, array, object, Items, no_items, Members, no_members, member, put}
-use Rattle.serde_json.specs.Read.{of_json, of_items, of_members, converted}
-use Rattle.cadf_json.specs.Reading.{is_name_above}
 use Rattle.cadf_json.proofs.Orders.{AreBelow, joined, push_if_last, AreBelow-further, AreBelow-joined}
 use Rattle.cadf_json.proofs.Passing.{followed, followed-none, with_last, further as further_items, parsed_none}
-use Rattle.std.proofs.lemmas.Bool.{and_parts}
-use Rattle.std.specs.Ordering.{is_lt}
 use Rattle.cadf_json.proofs.Turns.{item_read, items_over, member_read, members_over}
-use Rattle.cadf_json.specs.declared.node.Node.{Node}
-use Rattle.cadf_json.specs.declared.node.Node.TheVariants.{Null, Text, Array, Object}
-use Rattle.cadf_json.specs.declared.node.Extent.{Extent}
-use Rattle.cadf_json.specs.Flat.{IsTextAt, TextStands, ItemsStand, MembersStand, items_count, members_count, put_all, settled_items, settled_members}
-use Rattle.cadf_json.specs.Reading.{Grown, StandsAsRead}
 use Rattle.cadf_json.proofs.Settling.{settled_last, settled_joined}
 use Rattle.cadf_json.proofs.Standing.{text_further, items_further, members_further, items_last, members_last, count_last, count_joined}
 

@@ -1,9 +1,5 @@
 -- A number that is read and is no float is whole.
-use Rattle.std.proofs.Common.{◌≡◌, List, ℕ, false, Some, subst}
-use Rattle.serde_json.specs.Data.{Num}
-use Rattle.serde_json.specs.Find.{is_float}
-use Rattle.serde_json.specs.Read.{number_of}
-use Rattle.cadf_json.specs.Value.{IsWholeNumber}
+use Rattle.cadf_json.proofs.Common.{◌≡◌, List, ℕ, false, Some, subst, Num, is_float, number_of, IsWholeNumber}
 use Rattle.cadf_json.proofs.Formed.{IsFormedNumber, formed_number}
 use Rattle.cadf_json.proofs.Given.{Given}
 use Rattle.cadf_json.proofs.Spelled.{whole_number}

@@ -1,15 +1,6 @@
 -- Items that are visited one after another as they are read.
-use Rattle.std.proofs.lemmas.Grind.{common_steps}
-use Rattle.std.proofs.Common.{◌≡◌, ℕ, ◌-◌, ◌<◌, ◌≤◌, List, [], ◌∷◌, ◌++◌, length, false, Option, Some, None, refl, sym, ap, ◌∙◌, subst, arith}
-use Rattle.std.proofs.lemmas.Bool.{or_parts}
-use Rattle.json.specs.Token.{Token}
+use Rattle.cadf_json.proofs.Common.{common_steps, ◌≡◌, ℕ, ◌-◌, ◌<◌, ◌≤◌, List, [], ◌∷◌, ◌++◌, length, false, Option, Some, None, refl, sym, ap, ◌∙◌, subst, arith, or_parts, Token, Parse, parse_map, after_end_array, items, Data, Items, no_items, item, of_json, of_items, converted, has_float, items_have_float, to_list, AreTaken}
 use Rattle.json.specs.Json as json
-use Rattle.json.specs.Json.{Parse, parse_map, after_end_array, items}
-use Rattle.serde_json.specs.Data.{Data, Items, no_items, item}
-use Rattle.serde_json.specs.Read.{of_json, of_items, converted}
-use Rattle.serde_json.specs.Written.{has_float, items_have_float}
-use Rattle.cadf_json.specs.Parts.{to_list}
-use Rattle.cadf_json.specs.Apart.{AreTaken}
 use Rattle.cadf_json.proofs.Turns.{item_read, items_over}
 
 abbrev pub followed : Items → Items → Items

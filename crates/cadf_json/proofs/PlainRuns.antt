@@ -2,21 +2,7 @@
 --     mask_of_stops            the mask that three comparisons result in
 --     run_through, run_stops   what an empty mask implies for the run, and what another implies
 --     same_run, spelled_whole  a run is its own spelling, and so is a text that is one run
-use Rattle.std.proofs.lemmas.Grind.{common_steps}
-use Rattle.std.proofs.Common.{◌≡◌, ℕ, ◌+◌, ◌*◌, ◌%◌, ◌^◌, ◌<◌, ◌≤◌, ltb, Bool, true, false, not, ◌||◌, cond, eqb, List, [], ◌∷◌, map, length, take}
-use Rattle.std.proofs.Common.{drop, replicate, refl, sym, ap, ap₂, ◌∙◌, subst, arith}
-use Rattle.std.proofs.lemmas.Simd.{chunk-drop, length-chunk, leading_from_mask_l, trailing_mask_l, zip2_splat, mask_l-mod}
-use Rattle.std.proofs.lemmas.List.{length-drop, length-map, take_all}
-use Rattle.std.proofs.lemmas.List.Folds.{prefix_len-append}
-use Rattle.std.proofs.lemmas.List.Sums.{prefix_len-le-length}
-use Rattle.std.proofs.lemmas.Bool.{eq-eqb, ne_eqb, eqb-false, ltb-false}
-use Rattle.std.specs.List.{prefix_len}
-use Rattle.json.specs.Run.{is_stop, is_plain}
-use Rattle.json.specs.Print.{escape, escape_byte}
-use Rattle.json.proofs.Printed.Strings.{escape_byte_plain}
-use lib.Bits.{bit_or}
-use lib.Lanes.{chunk, mask_l, zip2, top}
-use lib.Count.{count_trailing_zeros}
+use Rattle.cadf_json.proofs.Common.{common_steps, ◌≡◌, ℕ, ◌+◌, ◌*◌, ◌%◌, ◌^◌, ◌<◌, ◌≤◌, ltb, Bool, true, false, not, ◌||◌, cond, eqb, List, [], ◌∷◌, map, length, take, drop, replicate, refl, sym, ap, ap₂, ◌∙◌, subst, arith, chunk-drop, length-chunk, leading_from_mask_l, trailing_mask_l, zip2_splat, mask_l-mod, length-drop, length-map, take_all, prefix_len-append, prefix_len-le-length, eq-eqb, ne_eqb, eqb-false, ltb-false, prefix_len, is_stop, is_plain, escape, escape_byte, escape_byte_plain, bit_or, chunk, mask_l, zip2, top, count_trailing_zeros}
 
 -- ---- the mask
 

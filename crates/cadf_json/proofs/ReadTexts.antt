@@ -1,13 +1,7 @@
 -- The JSON that a UTF-8 text is has UTF-8 texts.
-use Rattle.std.proofs.lemmas.Grind.{common_steps}
-use Rattle.std.proofs.Common.{ℕ, zero, suc, List, [], ◌∷◌, length, Option, Some, None, option_and_then, IsUtf8, arith}
-use Rattle.std.specs.Prelude.{⊤}
-use Rattle.json.specs.Token.{Token}
-use Rattle.json.specs.Lex.{tokens}
-use Rattle.json.specs.Json.{Json, null, boolean, number, string, array, object, Items, no_items, item, Members, no_members, member, Parse, parse_map}
-use Rattle.json.specs.Json.{after_end_array, read_key, items_step, members_step, items, members, value_with, value, if_last}
+use Rattle.cadf_json.proofs.Common.{common_steps, ℕ, zero, suc, List, [], ◌∷◌, length, Option, Some, None, option_and_then, IsUtf8, arith, ⊤, Token, tokens, Json, Parse, parse_map, after_end_array, read_key, items_step, members_step, items, members, value_with, value, if_last, HaveUtf8}
+use Rattle.json.specs.Json.{null, boolean, number, string, array, object, Items, no_items, item, Members, no_members, member}
 use Rattle.cadf_json.proofs.Given.{Given}
-use Rattle.cadf_json.specs.TokenUtf8.{HaveUtf8}
 use Rattle.cadf_json.proofs.TokenTexts.{tokens_utf8}
 
 abbrev mutual

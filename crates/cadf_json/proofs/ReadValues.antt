@@ -1,17 +1,7 @@
 -- A value that UTF-8 tokens begin with satisfies the invariant of values.
-use Rattle.std.proofs.lemmas.Grind.{common_steps}
-use Rattle.std.proofs.Common.{◌≡◌, ℕ, ◌≤◌, List, false, Option, Some, option_map, subst, arith}
-use Rattle.std.specs.Prelude.{⊤}
-use Rattle.json.specs.Token.{Token}
+use Rattle.cadf_json.proofs.Common.{common_steps, ◌≡◌, ℕ, ◌≤◌, List, false, Option, Some, option_map, subst, arith, ⊤, Token, value, read_key, value-depth, Num, Data, number, array, object, item, Members, no_members, member, put, depth, items_depth, members_depth, number_of, of_json, of_items, of_members, converted, has_float, HaveUtf8, IsValue}
 use Rattle.json.specs.Json as json
-use Rattle.json.specs.Json.{value, read_key}
 use Rattle.json.specs.Tree as tree
-use Rattle.json.proofs.Nesting.{value-depth}
-use Rattle.serde_json.specs.Data.{Num, Data, number, array, object, item, Members, no_members, member, put, depth, items_depth, members_depth}
-use Rattle.serde_json.specs.Read.{number_of, of_json, of_items, of_members, converted}
-use Rattle.serde_json.specs.Written.{has_float}
-use Rattle.cadf_json.specs.TokenUtf8.{HaveUtf8}
-use Rattle.cadf_json.specs.Value.{IsValue}
 use Rattle.cadf_json.proofs.Formed.{IsFormed, formed_json}
 use Rattle.cadf_json.proofs.Given.{Given, Given-map, Given-and_then}
 use Rattle.cadf_json.proofs.Orders.{put_step}

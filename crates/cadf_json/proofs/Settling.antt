@@ -1,14 +1,7 @@
 -- Values whose members are put in order, at every depth.
-use Rattle.std.proofs.lemmas.Grind.{common_steps}
-use Rattle.std.proofs.Common.{◌≡◌, ℕ, List, [], ◌++◌, Bool, true, refl, sym, ap, ◌∙◌, subst, arith}
-use Rattle.std.proofs.Common.{Ordering, nat_cmp}
-use Rattle.std.specs.Cmp.Lexicographic.{slice_cmp}
-use Rattle.serde_json.specs.Data.{Data, Items, no_items, item, Members, no_members, member, put}
+use Rattle.cadf_json.proofs.Common.{common_steps, ◌≡◌, ℕ, List, [], ◌++◌, Bool, true, refl, sym, ap, ◌∙◌, subst, arith, Ordering, nat_cmp, slice_cmp, Data, Items, no_items, item, Members, no_members, member, put, Stands, put_all, items_count, settled, settled_items, settled_members, Grown, StandsAsRead, Node}
 use Rattle.cadf_json.proofs.Orders.{joined}
 use Rattle.cadf_json.proofs.Passing.{with_last}
-use Rattle.cadf_json.specs.Flat.{Stands, put_all, items_count, settled, settled_items, settled_members}
-use Rattle.cadf_json.specs.Reading.{Grown, StandsAsRead}
-use Rattle.cadf_json.specs.declared.node.Node.{Node}
 
 -- a value without members was read as it is
 pub scalar : {old new : List Node} {t u : List ℕ} (d : Data) → settled d ≡ d → Grown (λ u xs. Stands u d xs) old new t u

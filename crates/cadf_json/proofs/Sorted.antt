@@ -1,22 +1,10 @@
 -- Members that are sorted by name: the last of each name is what is there once all were put one after another.
-use Rattle.std.proofs.lemmas.Grind.{common_steps}
-use Rattle.std.proofs.Common.{take, drop, slice_index_or, length-drop, take_all, ◌-◌, ◌≡◌, ℕ, ◌+◌, ◌<◌, List, [], ◌∷◌, ◌++◌, length, Bool, true, false, not, ◌&&◌, cond, Option, Some, None, refl, sym, ap, ◌∙◌, subst, arith, append_assoc, append-nil, rules}
-use native.Mathlib.Numerals.{unary_clauses}
-use Rattle.std.proofs.Common.{Ordering, Less, Equal, Greater}
-use Rattle.std.proofs.lemmas.Cmp.{nat_list_cmp_total}
-use Rattle.std.proofs.lemmas.Map.Text.{is_eq-slice_cmp}
-use Rattle.std.specs.FinMap.Entries as entries
-use Rattle.std.proofs.lemmas.List.{at_drop_more}
-use Rattle.std.specs.List.{filter}
-use Rattle.std.specs.List.Sorted.{IsSortedBy, ties}
-use Rattle.std.specs.Ordering.{is_lt, is_eq, eq_by_cmp, ordering_reverse}
-use Rattle.std.specs.Prelude.{⊤, T, if◌then◌else◌}
+use Rattle.cadf_json.proofs.Common.{common_steps, take, drop, slice_index_or, length-drop, take_all, ◌-◌, ◌≡◌, ℕ, ◌+◌, ◌<◌, List, [], ◌∷◌, ◌++◌, length, Bool, true, false, not, ◌&&◌, cond, Option, Some, None, refl, sym, ap, ◌∙◌, subst, arith, append_assoc, append-nil, rules, unary_clauses, Ordering, Less, Equal, Greater, nat_list_cmp_total, is_eq-slice_cmp, at_drop_more, filter, IsSortedBy, ties, is_lt, is_eq, eq_by_cmp, ordering_reverse, ⊤, T, if◌then◌else◌, Named, Entry, put_named, is_replaced, lasts}
 use Rattle.std.specs.Str.{bytes_eq}
+use Rattle.std.specs.FinMap.Entries as entries
 use Rattle.cadf_json.proofs.Orders.{greater-from_less, less-from_greater}
 use Rattle.cadf_json.proofs.ByName.{name_cmp}
 use Rattle.cadf_json.proofs.Splits.{same_name, itself}
-use Rattle.cadf_json.specs.declared.order.Named.{Named}
-use Rattle.cadf_json.specs.Reading.{Entry, put_named, is_replaced, lasts}
 
 abbrev pub below : Named → Named → Bool
 below p q = is_lt (name_cmp p.name q.name)

@@ -1,9 +1,6 @@
 -- Names that compare as equal.
-use Rattle.std.proofs.lemmas.Grind.{common_steps}
-use Rattle.std.proofs.Common.{◌≡◌, ℕ, List, is_eq, Ordering, Equal, nat_cmp, refl, sym, ap, ◌∙◌, arith}
-use Rattle.std.proofs.lemmas.Slice.Eq.{bytes_eq-Decides}
-use Rattle.std.proofs.lemmas.Map.Text.{is_eq-slice_cmp}
-use Rattle.std.specs.Cmp.Lexicographic.{slice_cmp}
+use Rattle.cadf_json.proofs.Common.{common_steps, ◌≡◌, ℕ, List, Ordering, Equal, nat_cmp, refl, sym, ap, ◌∙◌, arith, bytes_eq-Decides, is_eq-slice_cmp, slice_cmp}
+use Rattle.std.proofs.Common.{is_eq}
 use Rattle.cadf_json.proofs.Orders.{greater-from_less, less-from_greater}
 
 pub same_name : (k l : List ℕ) → slice_cmp nat_cmp k l ≡ Equal → k ≡ l

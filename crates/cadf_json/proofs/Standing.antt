@@ -1,16 +1,7 @@
 -- The nodes of a value stay its nodes when texts are appended, and one more item or member follows the others.
-use Rattle.std.proofs.lemmas.Grind.{common_steps}
-use Rattle.std.proofs.Common.{◌≡◌, ℕ, suc, ◌≤◌, List, [], ◌∷◌, ◌++◌, length, refl, sym, ap, ◌∙◌, arith, inl, inr, append_assoc, append-nil}
-use Rattle.std.proofs.Common.{length-append, length-drop}
-use Rattle.std.specs.Prelude.{slice_range}
-use Rattle.std.proofs.lemmas.List.{take-append-le, drop-append-le}
-use Rattle.serde_json.specs.Data.{Num, Data, null, boolean, number, string, array, object, Items, no_items, item, Members, no_members, member}
+use Rattle.cadf_json.proofs.Common.{common_steps, ◌≡◌, ℕ, suc, ◌≤◌, List, [], ◌∷◌, ◌++◌, length, refl, sym, ap, ◌∙◌, arith, inl, inr, append_assoc, append-nil, length-append, length-drop, slice_range, take-append-le, drop-append-le, Num, Data, null, boolean, number, string, array, object, Items, no_items, item, Members, no_members, member, Node, Text, Place, IsTextAt, NumberStands, Stands, ItemsStand, MembersStand, items_count, members_count}
 use Rattle.cadf_json.proofs.Orders.{joined}
 use Rattle.cadf_json.proofs.Passing.{with_last}
-use Rattle.cadf_json.specs.declared.node.Node.{Node}
-use Rattle.cadf_json.specs.declared.node.Node.TheVariants.{Text}
-use Rattle.cadf_json.specs.declared.node.Place.{Place}
-use Rattle.cadf_json.specs.Flat.{IsTextAt, NumberStands, Stands, ItemsStand, MembersStand, items_count, members_count}
 
 pub range_append : {A : Type 0} (xs ys : List A) (a b : ℕ) → a ≤ b → b ≤ length xs → slice_range (xs ++ ys) a b ≡ slice_range xs a b
 range_append xs ys a b h k = grind (arith, common_steps, drop-append-le, take-append-le, length-drop)

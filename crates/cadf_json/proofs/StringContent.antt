@@ -1,15 +1,5 @@
 -- The content of a string in a UTF-8 text is UTF-8.
-use Rattle.std.proofs.lemmas.Grind.{common_steps}
-use Rattle.std.proofs.Common.{◌≡◌, ℕ, ◌+◌, ◌*◌, ◌<◌, ◌&&◌, ◌||◌, ◌==◌, true, false, cond, nat_lt, List, [], ◌∷◌, ◌++◌, length, get_or, drop, Option}
-use Rattle.std.proofs.Common.{Some, None, IsUtf8, refl, sym, ap, ◌∙◌, subst, arith, append_assoc, append-nil, eqb-true, ltb-true}
-use Rattle.std.proofs.lemmas.Bool.{and_parts, cond_both}
-use Rattle.std.proofs.lemmas.Bool.Decides.{nat_tests}
-use Rattle.std.proofs.lemmas.List.{get_or_at, take_at, drop_at, length-append}
-use Rattle.std.proofs.lemmas.Str.{IsUtf8-append, IsUtf8-encode, IsUtf8-take, IsUtf8-drop, encode_ascii, IsCharBoundary-before_ascii, IsCharBoundary-after_ascii}
-use Rattle.std.specs.Char.{IsScalar, is_digit, digit_value, encode_utf8}
-use lib.Utf8.{low_scalar}
-use Rattle.json.specs.Text.{code_unit, short_escape, is_high_surrogate, is_low_surrogate, surrogate_pair, Within, plain, after_backslash, after_u}
-use Rattle.json.specs.Text.{after_high, prepend, content}
+use Rattle.cadf_json.proofs.Common.{common_steps, ◌≡◌, ℕ, ◌+◌, ◌*◌, ◌<◌, ◌&&◌, ◌||◌, ◌==◌, true, false, cond, nat_lt, List, [], ◌∷◌, ◌++◌, length, get_or, drop, Option, Some, None, IsUtf8, refl, sym, ap, ◌∙◌, subst, arith, append_assoc, append-nil, eqb-true, ltb-true, and_parts, cond_both, nat_tests, get_or_at, take_at, drop_at, length-append, IsUtf8-append, IsUtf8-encode, IsUtf8-take, IsUtf8-drop, encode_ascii, IsCharBoundary-before_ascii, IsCharBoundary-after_ascii, IsScalar, is_digit, digit_value, encode_utf8, low_scalar, code_unit, short_escape, is_high_surrogate, is_low_surrogate, surrogate_pair, Within, plain, after_backslash, after_u, after_high, prepend, content}
 use Rattle.cadf_json.proofs.Given.{Given, Given-same, Given-map, Given-and_then}
 
 -- ---- a UTF-8 text next to an ASCII byte

@@ -1,32 +1,10 @@
 -- Members that are read while the items of one list are taken apart.
-use Rattle.std.proofs.lemmas.Grind.{common_steps}
-use Rattle.std.proofs.Common.{◌≡◌, ℕ, ◌+◌, ◌-◌, ◌<◌, ◌≤◌, List, [], ◌∷◌, ◌++◌, length, set, Bool, true, false, true≢false, ◌&&◌, ◌||◌, if◌then◌else◌, Option, Some, None, option_map, bytes_eq, refl, sym, ap, ap₂, ◌∙◌, subst, arith}
-use Rattle.std.proofs.Common.{Ordering, Less, Equal, Greater, nat_cmp}
-use Rattle.std.specs.Cmp.Lexicographic.{slice_cmp}
-use Rattle.std.proofs.lemmas.Bool.{or_parts}
-use Rattle.std.proofs.lemmas.Slice.Eq.{bytes_eq-Decides}
-use Rattle.json.specs.Token.{Token}
+use Rattle.cadf_json.proofs.Common.{common_steps, ◌≡◌, ℕ, ◌+◌, ◌-◌, ◌<◌, ◌≤◌, List, [], ◌∷◌, ◌++◌, length, set, Bool, true, false, true≢false, ◌&&◌, ◌||◌, if◌then◌else◌, Option, Some, None, option_map, bytes_eq, refl, sym, ap, ap₂, ◌∙◌, subst, arith, Ordering, Less, Equal, Greater, nat_cmp, slice_cmp, or_parts, bytes_eq-Decides, Token, Parse, read_key, members, Data, array, object, Items, no_items, Members, no_members, member, put, depth, members_depth, get_member, of_json, of_members, converted, has_float, members_have_float, get_member-put, a_fraction, emptied, emptied_at, emptied_in, AreTaken, TookItems, is_name_above, TextStands, put_all, is_one_of, without, Grown, StandsAsRead, IsWhole, MembersAreWhole, RisesFrom, Rises, IsValue, Node, Extent, Null, Object, and_parts}
 use Rattle.json.specs.Json as json
-use Rattle.json.specs.Json.{Parse, read_key, members}
-use Rattle.serde_json.specs.Data.{Data, array, object, Items, no_items, Members, no_members, member, put, depth, members_depth}
-use Rattle.serde_json.specs.Find.{get_member}
-use Rattle.serde_json.specs.Read.{of_json, of_members, converted}
-use Rattle.serde_json.specs.Written.{has_float, members_have_float}
-use Rattle.serde_json.proofs.Views.{get_member-put}
-use Rattle.cadf_json.specs.Apart.{a_fraction, emptied, emptied_at, emptied_in, AreTaken, TookItems}
-use Rattle.cadf_json.specs.Reading.{is_name_above}
-use Rattle.cadf_json.specs.Flat.{TextStands, put_all}
-use Rattle.cadf_json.specs.Rewritten.{is_one_of, without}
-use Rattle.cadf_json.specs.Reading.{Grown, StandsAsRead}
-use Rattle.cadf_json.specs.Value.{IsWhole, MembersAreWhole, RisesFrom, Rises, IsValue}
-use Rattle.cadf_json.specs.declared.node.Node.{Node}
-use Rattle.cadf_json.specs.declared.node.Extent.{Extent}
-use Rattle.cadf_json.specs.declared.node.Node.TheVariants.{Null, Object}
 use Rattle.cadf_json.proofs.Looks.{member_here, member_passed}
 use Rattle.cadf_json.proofs.Loops.{MembersRead, members_start, one_more_member, all_members, put_last}
 use Rattle.cadf_json.proofs.Orders.{joined}
 use Rattle.cadf_json.proofs.Rewriting.{get-put}
-use Rattle.std.proofs.lemmas.Bool.{and_parts}
 use Rattle.cadf_json.proofs.Splits.{same_name}
 
 apart : (k n : List ℕ) → bytes_eq k n ≡ false → k ≡ n → ⊥

@@ -1,17 +1,8 @@
 -- The tokens of a UTF-8 text have UTF-8 texts.
-use Rattle.std.proofs.lemmas.Grind.{common_steps}
-use Rattle.std.proofs.Common.{ℕ, ◌<◌, ◌==◌, Bool, true, false, List, [], ◌∷◌, ◌++◌, Option, IsUtf8, sym, subst, arith, append_assoc, eqb-true}
-use Rattle.std.specs.Prelude.{⊤}
-use Rattle.std.specs.List.{AllByRecursion}
-use Rattle.std.proofs.lemmas.Bool.{cond_both}
+use Rattle.cadf_json.proofs.Common.{common_steps, ℕ, ◌<◌, ◌==◌, Bool, true, false, List, [], ◌∷◌, ◌++◌, Option, IsUtf8, sym, subst, arith, append_assoc, eqb-true, ⊤, AllByRecursion, cond_both, Token, bad, content, plain, head, word, number_before, after_number, literal, Lexeme, token, comma, colon, Class, quote, backslash, operator, space, other, class, operator_lexeme, string_token, Mode, between, in_word, in_string, in_escape, lex_byte, lex, fresh, after_value, after_comma, after_key, begins_colon, if_allowed, place_token, punctuate, tokens, HasUtf8, HaveUtf8}
+use Rattle.json.specs.Token.{boolean, null}
+use Rattle.json.specs.Lex.{Place}
 use Rattle.json.specs.Ascii as ascii
-use Rattle.json.specs.Token.{Token, boolean, null, bad}
-use Rattle.json.specs.Text.{content, plain}
-use Rattle.json.specs.Word.{head, word, number_before, after_number, literal}
-use Rattle.json.specs.Lex.{Lexeme, token, comma, colon, Class, quote, backslash, operator, space, other, class, operator_lexeme, string_token, Mode}
-use Rattle.json.specs.Lex.{between, in_word, in_string, in_escape, lex_byte, lex, Place, fresh, after_value, after_comma, after_key, begins_colon}
-use Rattle.json.specs.Lex.{if_allowed, place_token, punctuate, tokens}
-use Rattle.cadf_json.specs.TokenUtf8.{HasUtf8, HaveUtf8}
 use Rattle.cadf_json.proofs.Given.{Given}
 use Rattle.cadf_json.proofs.StringContent.{behind_ascii, content_utf8}
 

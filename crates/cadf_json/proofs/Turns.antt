@@ -1,12 +1,6 @@
 -- The grammar's loops, one pass at a time, under the conversion to values.
-use Rattle.std.proofs.lemmas.Grind.{common_steps}
-use Rattle.std.proofs.Common.{◌≡◌, ℕ, ◌-◌, ◌<◌, ◌≤◌, List, [], length, Option, Some, None, option_map, option_and_then, ap, ◌∙◌, arith}
-use Rattle.json.specs.Token.{Token}
+use Rattle.cadf_json.proofs.Common.{common_steps, ◌≡◌, ℕ, ◌-◌, ◌<◌, ◌≤◌, List, [], length, Option, Some, None, option_map, option_and_then, ap, ◌∙◌, arith, Token, Parse, parse_map, after_end_array, read_key, items, members, if_last, items_end, items_more, members_end, members_more, Data, array, object, no_items, item, Members, no_members, put, of_json, of_items, of_members, converted}
 use Rattle.json.specs.Json as json
-use Rattle.json.specs.Json.{Parse, parse_map, after_end_array, read_key, items, members, if_last}
-use Rattle.json.proofs.Grammar.{items_end, items_more, members_end, members_more}
-use Rattle.serde_json.specs.Data.{Data, array, object, no_items, item, Members, no_members, put}
-use Rattle.serde_json.specs.Read.{of_json, of_items, of_members, converted}
 
 abbrev pick : {A : Type 0} → A → Option A → A
 pick d None = d

@@ -1,17 +1,5 @@
 -- From one item or member to the next, over the nodes that are left.
-use Rattle.std.proofs.lemmas.Grind.{common_steps}
-use Rattle.std.proofs.Common.{◌≡◌, ℕ, ◌<◌, ◌≤◌, List, [], length, take, drop, IsUtf8, true, false, is_some, refl, sym, ap, ap₂, ◌∙◌, subst, arith, append-nil}
-use Rattle.std.specs.Prelude.{slice_index_or}
-use Rattle.serde_json.specs.Data.{Data, null, boolean, number, string, array, object, Items, no_items, item, Members, no_members, member, items_depth}
-use Rattle.serde_json.specs.Find.{as_array}
-use Rattle.cadf_json.specs.Parts.{is_object, items_in, members_in}
-use Rattle.cadf_json.specs.Value.{ItemsAreWhole, IsValue, AreMembers, Rises, RisesFrom}
-use Rattle.cadf_json.specs.Flat.{size_of, node_values, decode, Stands, ItemsStand, MembersStand}
-use Rattle.cadf_json.specs.Reading.{IsFirstMember}
-use Rattle.cadf_json.specs.Walks.{paired, members_at, AreItemsLeft, AreMembersLeft}
-use Rattle.cadf_json.specs.declared.node.Node.{Node}
-use Rattle.cadf_json.specs.declared.node.Node.TheVariants.{Null}
-use Rattle.cadf_json.specs.declared.walk.FirstMember.{FirstMember}
+use Rattle.cadf_json.proofs.Common.{common_steps, ◌≡◌, ℕ, ◌<◌, ◌≤◌, List, [], length, take, drop, IsUtf8, true, false, is_some, refl, sym, ap, ap₂, ◌∙◌, subst, arith, append-nil, slice_index_or, Data, null, boolean, number, string, array, object, Items, no_items, item, Members, no_members, member, items_depth, as_array, is_object, items_in, members_in, ItemsAreWhole, IsValue, AreMembers, Rises, RisesFrom, size_of, node_values, decode, Stands, ItemsStand, MembersStand, IsFirstMember, paired, members_at, AreItemsLeft, AreMembersLeft, Node, Null, FirstMember}
 use Rattle.cadf_json.proofs.Decoding.{flattened, items_values, members_values, decoded_whole}
 use Rattle.cadf_json.proofs.Passing.{followed-none}
 use Rattle.cadf_json.proofs.Texts.{has_float-IsWhole}

@@ -3,32 +3,16 @@
 --     accepts-models   bytes are accepted if and only if they are the file of a model
 --     models-tell      models with equal files are equal
 --     reads            lines that were read are read as the model
-use Rattle.std.proofs.Common.{◌≡◌, inl, inr, ℕ, ◌+◌, ◌≤◌, List, [], ◌∷◌, ◌++◌, length, map, drop, Bool, true, false, cond, Option, Some, None, Result, Ok, Err, refl, sym, ap, ◌∙◌, subst, append_assoc, append-nil}
-use Rattle.std.specs.Prelude.{◌&&◌, nat_lt}
-use Rattle.std.specs.Str.{bytes_eq}
-use Rattle.std.proofs.lemmas.Slice.Eq.{bytes_eq-Decides}
-use Rattle.std.proofs.lemmas.Str.{is_utf8-from_IsUtf8}
-use Rattle.cadf_join.specs.Contents.{Text}
-use Rattle.cadf_event.specs.Names.{is_name}
-use Rattle.cadf_event.specs.Known.{IsNameText}
-use Rattle.cadf_event.specs.LogName.{is_name_text}
-use Rattle.cadf_linefile.specs.declared.fault.Cause.{Cause}
-use Rattle.cadf_linefile.specs.declared.fault.FileFault.{FileFault}
-use Rattle.cadf_linefile.specs.declared.fault.FileFault.TheVariants.{Digest, Trailing, ReadFault}
+use Rattle.cadf_linefile.proofs.Common.{◌≡◌, inl, inr, ℕ, ◌+◌, ◌≤◌, List, [], ◌∷◌, ◌++◌, length, map, drop, Bool, true, false, cond, Option, Some, None, Result, Ok, Err, refl, sym, ap, ◌∙◌, subst, append_assoc, append-nil, ◌&&◌, nat_lt, bytes_eq, bytes_eq-Decides, is_utf8-from_IsUtf8, Text, is_name, IsNameText, is_name_text, Cause, FileFault, Digest, Trailing, ReadFault, LineGrammar, text_of_lines, cut, log_line, digest_line, with_digest_line, begins_digest, first_of, at_line, fault_unless, fault_of, fault_or, verdict_at_end, through_digest, has_digest, ModelKind, cause_of_end, grammar_of, file_of, model_or_fault, verdict_of, AcceptsModels, IsInjective, AnswersModel, ReadsModel, AreWhole, IsModelOfRead}
 use Rattle.cadf_linefile.specs.Answers as frame_answers
 use Rattle.cadf_linefile.specs.Reads as frame_reads
-use Rattle.cadf_linefile.specs.LineGrammar.{LineGrammar}
-use Rattle.cadf_linefile.specs.Lines.{text_of_lines, cut}
 use Rattle.cadf_linefile.specs.Verdict as frame
-use Rattle.cadf_linefile.specs.Verdict.{log_line, digest_line, with_digest_line, begins_digest, first_of, at_line, fault_unless, fault_of, fault_or, verdict_at_end, through_digest, has_digest}
 use Rattle.cadf_linefile.proofs.BodyLines.{IsKind, AreAfter, body_of, same_bytes, items_are_file, file_is_items}
 use Rattle.cadf_linefile.proofs.JudgeLemmas.{later_body, later_digest}
 use Rattle.cadf_linefile.proofs.LinesLemmas.{are_unbroken, cut-lines}
 use Rattle.cadf_linefile.proofs.ReadingLemmas.{unless_map}
 use Rattle.cadf_linefile.proofs.UnbrokenLines.{last_apart}
 use Rattle.cadf_linefile.proofs.VerdictLemmas.{unless_none}
-use Rattle.cadf_linefile.specs.ModelKind.{ModelKind, cause_of_end, grammar_of, file_of, model_or_fault, verdict_of, AcceptsModels, IsInjective}
-use Rattle.cadf_linefile.specs.ModelReads.{AnswersModel, ReadsModel, AreWhole, IsModelOfRead}
 
 -- ---- lines that are no digest line are a kind of items
 

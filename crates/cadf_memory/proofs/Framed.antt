@@ -1,8 +1,5 @@
 -- What stands before the text of a buffer is kept where bytes are written behind it.
-use Rattle.std.proofs.Common.{◌≡◌, ℕ, List, ◌∷◌, ◌++◌, length, take, drop, sym, ap, ◌∙◌, append_assoc}
-use lib.Seq.{take-append_seam, drop-append_seam}
-use Rattle.cadf_memory.specs.declared.buffer.Buffer.{Buffer}
-use Rattle.cadf_memory.specs.Buffers.{buffer_name, buffer_before, buffer_text}
+use Rattle.cadf_memory.proofs.Common.{◌≡◌, ℕ, List, ◌∷◌, ◌++◌, length, take, drop, sym, ap, ◌∙◌, append_assoc, take-append_seam, drop-append_seam, Buffer, buffer_name, buffer_before, buffer_text}
 
 -- all that a buffer tells as written
 abbrev pub frame : Buffer → List ℕ

@@ -1,4 +1,5 @@
-pub mod Outcomes
-pub mod Walks
-pub mod Stored
+pub mod Common
 pub mod Framed
+pub mod Outcomes
+pub mod Stored
+pub mod Walks

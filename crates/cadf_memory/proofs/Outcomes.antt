@@ -1,25 +1,7 @@
 -- What comes of a run of a request on bytes in memory: the text that it hands out in a buffer, or why it gave up.
-use Rattle.std.proofs.Common.{arith, ◌≡◌, ◌⊎◌, inl, inr, ℕ, List, [], ◌∷◌, ◌++◌, length, map, Option, Some, Result, Ok, Err, IfOk, IfErr, MatchResult}
-use Rattle.std.proofs.Common.{refl, sym, ap, ◌∙◌, subst}
-use Rattle.std.proofs.lemmas.List.{length-map}
-use Rattle.std.specs.Io.KnownBytes.{Appends}
-use Rattle.cadf_json.specs.declared.stream.Sink.{Ghosts as Sink}
-use Rattle.cadf_join.specs.Contents.{Text}
-use Rattle.cadf_tool.specs.declared.fault.ToolFault.{ToolFault}
-use Rattle.cadf_tool.specs.declared.fault.ToolFault.TheVariants.{ReadFault, WriteFault, Memory}
-use Rattle.cadf_tool.specs.declared.request.Request.{Request}
+use Rattle.cadf_memory.proofs.Common.{arith, ◌≡◌, ◌⊎◌, inl, inr, ℕ, List, [], ◌∷◌, ◌++◌, length, map, Option, Some, Result, Ok, Err, IfOk, IfErr, MatchResult, refl, sym, ap, ◌∙◌, subst, length-map, Appends, Sink, Text, ToolFault, ReadFault, WriteFault, Request, fault_stage, SourceState, NoneFailed, task, IsFirstFaultBy, IsExpectedOfBy, IsWritten, IsAnswer, IsRunBy, Buffer, CadfBytes, SliceSource, buffer_name, buffer_before, buffer_text, handed, IsHandedOut, IsMadeFor, IsFirstFor, fault_in_memory_of, bytes_in, unread, slice_state}
+use Rattle.cadf_tool.specs.declared.fault.ToolFault.TheVariants.{Memory}
 use Rattle.cadf_tool.specs.declared.request.Request.TheVariants as ask
-use Rattle.cadf_tool.specs.Faults.{fault_stage}
-use Rattle.cadf_tool.specs.Inputs.{SourceState, NoneFailed}
-use Rattle.cadf_tool.specs.Request.{task}
-use Rattle.cadf_tool.specs.Run.{IsFirstFaultBy, IsExpectedOfBy, IsWritten, IsAnswer, IsRunBy}
-use Rattle.cadf_memory.specs.declared.buffer.Buffer.{Buffer}
-use Rattle.cadf_memory.specs.declared.slice_source.CadfBytes.{CadfBytes}
-use Rattle.cadf_memory.specs.declared.slice_source.SliceSource.{SliceSource}
-use Rattle.cadf_memory.specs.Buffers.{buffer_name, buffer_before, buffer_text}
-use Rattle.cadf_memory.specs.Handed.{handed, IsHandedOut}
-use Rattle.cadf_memory.specs.Made.{IsMadeFor, IsFirstFor, fault_in_memory_of}
-use Rattle.cadf_memory.specs.Memory.{bytes_in, unread, slice_state}
 use Rattle.cadf_memory.proofs.Framed.{frame, name_kept, before_kept, text_added}
 
 -- what is answered of a run that wrote to the buffer

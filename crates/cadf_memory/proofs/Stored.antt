@@ -1,12 +1,5 @@
 -- What stands in a buffer after one more write.
-use Rattle.std.proofs.Common.{◌≡◌, ℕ, ◌+◌, ◌-◌, ◌≤◌, ◌<◌, Bool, true, false, List, ◌++◌, length, take, drop}
-use Rattle.std.proofs.Common.{refl, sym, ap, ◌∙◌, arith, append-nil, append_assoc, length-append, length-drop, length-take-le, take_all}
-use Rattle.std.proofs.Math.Dec.{leb}
-use Rattle.std.proofs.lemmas.Bool.{leb-true, leb-false}
-use Rattle.std.proofs.lemmas.List.{take-append-le}
-use Rattle.std.proofs.Math.ListN.{drop_of_length-le}
-use lib.Seq.{take-append_seam, drop-append_seam, take-append-add, take-take, drop-drop, take-length}
-use Rattle.cadf_memory.specs.Handed.{handed}
+use Rattle.cadf_memory.proofs.Common.{◌≡◌, ℕ, ◌+◌, ◌-◌, ◌≤◌, ◌<◌, Bool, true, false, List, ◌++◌, length, take, drop, refl, sym, ap, ◌∙◌, arith, append-nil, append_assoc, length-append, length-drop, length-take-le, take_all, leb, leb-true, leb-false, take-append-le, drop_of_length-le, take-append_seam, drop-append_seam, take-append-add, take-take, drop-drop, take-length, handed}
 
 either : {P : Type 0} (a b : ℕ) → (a ≤ b → P) → (b ≤ a → P) → P
 either {P} a b f g = by (leb a b) refl

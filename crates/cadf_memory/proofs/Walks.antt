@@ -1,12 +1,5 @@
 -- A step that the walks of `src/ghost_bytes.rt` share. Assumes `Logic`.
-use Rattle.std.proofs.Common.{List, [], ◌∷◌, refl}
-use seplogic.Ra.Ura.{Ura}
-use mir.Val.{Val, vstruct, vnil}
-use types.Logic.{Logic}
-use types.Kit.{Goal, Step, step, Item, ‵, ◌$◌, fjoin, fpack, feq_i}
-use denote.RattleType.{RattleType, Valss}
-use denote.Steps.{nothing}
-use denote.Struct.Struct.{Struct, within}
+use Rattle.cadf_memory.proofs.Common.{List, [], ◌∷◌, refl, Ura, Val, vstruct, vnil, Logic, Goal, Step, step, Item, ‵, ◌$◌, fjoin, fpack, feq_i, RattleType, Valss, nothing, Struct, within}
 
 abbrev pub none : Val
 none = vstruct vnil

@@ -1,16 +1,6 @@
 -- A list above the last of ascending lists is above each of them.
-use Rattle.std.proofs.Common.{◌≡◌, true, List, [], ◌∷◌, refl, sym, ap, ◌∙◌, subst, inl, inr}
-use mathlib.Core.Bool.{true≢false}
-use Rattle.std.specs.declared.cmp.Ordering.{Ordering}
-use Rattle.std.specs.declared.cmp.Ordering.TheVariants.{Less, Equal, Greater}
-use Rattle.std.specs.Ordering.{is_lt}
-use Rattle.std.specs.List.Sorted.{IsStrictlySortedBy}
+use Rattle.cadf_pathset.proofs.Common.{◌≡◌, true, List, [], ◌∷◌, refl, sym, ap, ◌∙◌, subst, inl, inr, true≢false, Ordering, Less, Equal, Greater, is_lt, IsStrictlySortedBy, Listed, contains-from_list, AllByRecursion-listed, any_listed, listed_any, Texts, texts_cmp, texts_total, texts_same, last_of, is_above_last}
 use Rattle.cadf_join.specs.Sets as set
-use Rattle.cadf_join.specs.Sets.{Listed, contains-from_list}
-use Rattle.cadf_join.specs.laws.Rising.{AllByRecursion-listed, any_listed, listed_any}
-use Rattle.cadf_join.specs.Contents.{Texts, texts_cmp}
-use Rattle.cadf_join.specs.laws.Contents.{texts_total, texts_same}
-use Rattle.cadf_pathset.specs.Lists.{last_of, is_above_last}
 
 is_less : (r : Ordering) → is_lt r ≡ true → r ≡ Less
 is_less Less h = refl

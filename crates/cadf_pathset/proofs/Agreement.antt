@@ -1,14 +1,5 @@
 -- Lists that share their first texts.
-use Rattle.std.proofs.lemmas.Grind.{common_steps}
-use Rattle.std.proofs.Common.{◌≡◌, ℕ, ◌+◌, ◌<◌, ◌≤◌, min, [], ◌∷◌, refl, sym, ap, ◌∙◌, subst, suc, zero, length, take, drop, get_or, arith}
-use Rattle.std.proofs.lemmas.List.{length-take-le, take_more_same, take-take}
-use Rattle.std.specs.declared.cmp.Ordering.{Ordering}
-use Rattle.std.specs.declared.cmp.Ordering.TheVariants.{Less, Equal, Greater}
-use Rattle.std.specs.Ordering.{ordering_then, match_ordering, nat_cmp}
-use Rattle.std.specs.Cmp.{nat_cmp_is, tied_itself}
-use Rattle.cadf_join.specs.Contents.{Text, Texts, text_cmp, texts_cmp}
-use Rattle.cadf_join.specs.laws.Contents.{text_total, text_same}
-use Rattle.cadf_pathset.specs.Nodes.{Agree, shared}
+use Rattle.cadf_pathset.proofs.Common.{common_steps, ◌≡◌, ℕ, ◌+◌, ◌<◌, ◌≤◌, min, [], ◌∷◌, refl, sym, ap, ◌∙◌, subst, suc, zero, length, take, drop, get_or, arith, length-take-le, take_more_same, take-take, Ordering, Less, Equal, Greater, ordering_then, match_ordering, nat_cmp, nat_cmp_is, tied_itself, Text, Texts, text_cmp, texts_cmp, text_total, text_same, Agree, shared}
 use Rattle.cadf_pathset.proofs.Orders.{cmp_suc}
 
 module _ (i : ℕ) (t u : Text) (a b : Texts) (h : Agree (suc i) (t ∷ a) (u ∷ b)) where

@@ -1,9 +1,5 @@
 -- The lists of the nodes of an arena, one by one and after a node is appended.
-use Rattle.std.proofs.lemmas.Grind.{common_steps}
-use Rattle.std.proofs.Common.{◌≡◌, ℕ, ◌+◌, ◌-◌, ◌<◌, ◌≤◌, List, [], ◌∷◌, ◌++◌, refl, sym, ap, ◌∙◌, suc, zero, length, get_or, arith}
-use Rattle.std.proofs.lemmas.List.{length_push, get_or_append_left, get_or_push, get_or_read}
-use Rattle.cadf_join.specs.Contents.{Text, Texts}
-use Rattle.cadf_pathset.specs.Nodes.{list_at, lists_from, lists, ParentsFirst, last_text, AreNodes}
+use Rattle.cadf_pathset.proofs.Common.{common_steps, ◌≡◌, ℕ, ◌+◌, ◌-◌, ◌<◌, ◌≤◌, List, [], ◌∷◌, ◌++◌, refl, sym, ap, ◌∙◌, suc, zero, length, get_or, arith, length_push, get_or_append_left, get_or_push, get_or_read, Text, Texts, list_at, lists_from, lists, ParentsFirst, last_text, AreNodes}
 
 pub length_from : (known : List Texts) (ps : List ℕ) (ts : Texts) → length ps ≡ length ts → length (lists_from known ps ts) ≡ length known + length ps
 unfolding lists_from

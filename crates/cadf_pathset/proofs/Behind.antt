@@ -1,24 +1,6 @@
 -- The suffixes after a text in ascending lists, and the first texts of the lists.
-use Rattle.std.proofs.lemmas.Grind.{common_steps}
-use Rattle.std.proofs.Common.{◌≡◌, ◌≤◌, ℕ, suc, zero, true, false, cond, List, [], ◌∷◌, Option, Some, None, refl, sym, ap, ◌∙◌, subst, length, take, drop}
-use Rattle.std.proofs.Common.{get_or, map, ◌<◌, ◌+◌, arith}
-use Rattle.std.specs.Borrow.{Bor}
-use Rattle.std.proofs.lemmas.List.{at_drop_more}
-use mathlib.Core.Bool.{true≢false}
-use Rattle.std.specs.declared.cmp.Ordering.{Ordering}
-use Rattle.std.specs.declared.cmp.Ordering.TheVariants.{Less, Equal, Greater}
-use Rattle.std.specs.Ordering.{is_lt, is_eq, eq_by_cmp, match_ordering, ordering_reverse}
-use Rattle.std.specs.List.{AllByRecursion, cons_option, filter_map, find}
-use Rattle.std.specs.List.Sorted.{IsStrictlySortedBy}
-use Rattle.cadf_join.specs.Contents.{Text, Texts, Contents, text_cmp, texts_cmp, is_after, next_after, tails_of, suffixes_of}
-use Rattle.cadf_join.specs.laws.Contents.{text_total, text_same, texts_total, texts_same}
-use Rattle.cadf_join.specs.Maps.{firsts, heads}
-use Rattle.cadf_join.specs.Prefixes.{texts_at}
+use Rattle.cadf_pathset.proofs.Common.{common_steps, ◌≡◌, ◌≤◌, ℕ, suc, zero, true, false, cond, List, [], ◌∷◌, Option, Some, None, refl, sym, ap, ◌∙◌, subst, length, take, drop, get_or, map, ◌<◌, ◌+◌, arith, Bor, at_drop_more, true≢false, Ordering, Less, Equal, Greater, is_lt, is_eq, eq_by_cmp, match_ordering, ordering_reverse, AllByRecursion, cons_option, filter_map, find, IsStrictlySortedBy, Text, Texts, Contents, text_cmp, texts_cmp, is_after, next_after, tails_of, suffixes_of, text_total, text_same, texts_total, texts_same, firsts, heads, texts_at, rising-from_list, rising_is_sorted, rising-section, first_text, is_before, strip, suffixes_after}
 use Rattle.cadf_join.specs.Sets as set
-use Rattle.cadf_join.specs.laws.Rising.{rising-from_list, rising_is_sorted}
-use Rattle.cadf_join.proofs.Risings.{rising-section}
-use Rattle.cadf_pathset.specs.Lists.{first_text, is_before, strip}
-use Rattle.cadf_pathset.specs.Sections.{suffixes_after}
 use Rattle.cadf_pathset.proofs.Firsts.{DoesNotFall, find_rising}
 use Rattle.cadf_pathset.proofs.Halving.{first_dropped}
 

@@ -1,15 +1,6 @@
 -- The result of a binary search in a list.
-use Rattle.std.proofs.lemmas.Grind.{common_steps}
-use Rattle.std.proofs.Common.{◌≡◌, ℕ, true, ◌+◌, ◌-◌, ◌<◌, ◌≤◌, min, suc, zero, List, [], refl, sym, ap, ◌∙◌, length, take, drop, get_or, arith}
-use Rattle.std.specs.declared.cmp.Ordering.{Ordering}
-use Rattle.std.specs.declared.cmp.Ordering.TheVariants.{Less}
-use Rattle.std.specs.Ordering.{is_lt}
-use Rattle.std.proofs.lemmas.List.{get_or-drop, length-drop}
-use Rattle.std.specs.List.{AllByRecursion}
-use Rattle.std.specs.List.Sorted.{IsStrictlySortedBy}
-use Rattle.cadf_join.specs.Contents.{Texts, texts_cmp}
+use Rattle.cadf_pathset.proofs.Common.{common_steps, ◌≡◌, ℕ, true, ◌+◌, ◌-◌, ◌<◌, ◌≤◌, min, suc, zero, List, [], refl, sym, ap, ◌∙◌, length, take, drop, get_or, arith, Ordering, Less, is_lt, get_or-drop, length-drop, AllByRecursion, IsStrictlySortedBy, Texts, texts_cmp, Agree}
 use Rattle.cadf_pathset.proofs.Halving.{all_taken, rising_at}
-use Rattle.cadf_pathset.specs.Nodes.{Agree}
 use Rattle.cadf_pathset.proofs.Agreement.{agree_less, between}
 
 pub is_less : (r : Ordering) → is_lt r ≡ true → r ≡ Less

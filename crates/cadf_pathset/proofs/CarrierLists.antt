@@ -1,20 +1,8 @@
 -- The carriers of strictly ascending lists, each once, are strictly ascending, and are those of the set.
-use Rattle.std.proofs.Common.{◌≡◌, Bool, true, false, cond, List, [], ◌∷◌, ◌++◌, refl, sym, ap, ◌∙◌, subst, inl, inr, ◌⊎◌, map}
-use mathlib.Core.Bool.{true≢false}
-use Rattle.std.specs.declared.cmp.Ordering.{Ordering}
-use Rattle.std.specs.declared.cmp.Ordering.TheVariants.{Less, Equal, Greater}
-use Rattle.std.specs.Ordering.{is_lt}
-use Rattle.std.specs.List.{AllByRecursion}
-use Rattle.std.specs.List.Sorted.{IsStrictlySortedBy}
+use Rattle.cadf_pathset.proofs.Common.{◌≡◌, Bool, true, false, cond, List, [], ◌∷◌, ◌++◌, refl, sym, ap, ◌∙◌, subst, inl, inr, ◌⊎◌, map, true≢false, Ordering, Less, Equal, Greater, is_lt, AllByRecursion, IsStrictlySortedBy, Listed, Texts, texts_cmp, texts_total, texts_same, carriers_in, with_carriers_by, last_of, is_above_last, sorted_merge}
 use Rattle.cadf_join.specs.Sets as set
-use Rattle.cadf_join.specs.Sets.{Listed}
-use Rattle.cadf_join.specs.Contents.{Texts, texts_cmp}
-use Rattle.cadf_join.specs.laws.Contents.{texts_total, texts_same}
 use Rattle.cadf_join.proofs.Members as members
 use Rattle.cadf_join.specs.laws.Sets as sets
-use Rattle.cadf_pathset.specs.Carriers.{carriers_in, with_carriers_by}
-use Rattle.cadf_pathset.specs.Lists.{last_of, is_above_last}
-use Rattle.cadf_pathset.specs.Merge.{sorted_merge}
 use Rattle.cadf_pathset.proofs.Above.{above_last, last_listed}
 use Rattle.cadf_pathset.proofs.Merges.{pushed_rises, merged_is_union}
 

@@ -1,10 +1,6 @@
 -- Lists of a set that is kept as a set of chains.
-use Rattle.std.proofs.Common.{◌≡◌, List, [], ◌∷◌, ap, refl}
-use Rattle.std.specs.List.{filter_map}
-use Rattle.cadf_join.specs.Contents.{Texts, Contents, IsLeastWith}
-use Rattle.cadf_join.specs.laws.Contents.{texts_total, texts_same}
+use Rattle.cadf_pathset.proofs.Common.{◌≡◌, List, [], ◌∷◌, ap, refl, filter_map, Texts, Contents, IsLeastWith, texts_total, texts_same, strip}
 use Rattle.cadf_join.specs.laws.Sets as sets
-use Rattle.cadf_pathset.specs.Lists.{strip}
 
 -- each list follows the empty one
 pub all_stripped : (ls : List Texts) → filter_map (strip []) ls ≡ ls

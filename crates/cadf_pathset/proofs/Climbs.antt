@@ -1,12 +1,5 @@
 -- A climb from a node, beside a list.
-use Rattle.std.proofs.lemmas.Grind.{common_steps}
-use Rattle.std.proofs.Common.{◌≡◌, ℕ, ◌-◌, ◌<◌, ◌≤◌, min, [], ◌∷◌, ◌++◌, sym, ap, ◌∙◌, length, take, get_or, arith}
-use Rattle.std.proofs.lemmas.List.{length-take, take-take, take_at, take_min}
-use Rattle.std.specs.declared.cmp.Ordering.{Ordering}
-use Rattle.std.specs.declared.cmp.Ordering.TheVariants.{Less, Equal, Greater}
-use Rattle.cadf_join.specs.Contents.{Text, Texts, text_cmp, texts_cmp}
-use Rattle.std.specs.Ordering.{ordering_then}
-use Rattle.cadf_pathset.specs.Nodes.{Agree, last_text, shared}
+use Rattle.cadf_pathset.proofs.Common.{common_steps, ◌≡◌, ℕ, ◌-◌, ◌<◌, ◌≤◌, min, [], ◌∷◌, ◌++◌, sym, ap, ◌∙◌, length, take, get_or, arith, length-take, take-take, take_at, take_min, Ordering, Less, Equal, Greater, Text, Texts, text_cmp, texts_cmp, ordering_then, Agree, last_text, shared}
 use Rattle.cadf_pathset.proofs.Agreement.{agree_less, agree_more, parted}
 use Rattle.cadf_pathset.proofs.Arena.{last_of_push}
 use Rattle.cadf_pathset.proofs.Compared.{less_is_not, greater_is_not}

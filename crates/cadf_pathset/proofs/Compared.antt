@@ -1,15 +1,5 @@
 -- A line's list and a path, compared at one text.
-use Rattle.std.proofs.lemmas.Grind.{common_steps}
-use Rattle.std.proofs.Common.{◌≡◌, ℕ, ◌+◌, ◌<◌, ◌≤◌, min, List, [], true, false, ap, sym, ◌∙◌, length, take, get_or, arith}
-use Rattle.std.specs.Borrow.{Bor}
-use Rattle.std.proofs.lemmas.List.{length-map, length-take, take-map}
-use Rattle.std.specs.declared.cmp.Ordering.{Ordering}
-use Rattle.std.specs.declared.cmp.Ordering.TheVariants.{Less, Equal, Greater}
-use mathlib.Core.Bool.{true≢false}
-use Rattle.std.specs.Ordering.{is_eq, nat_cmp}
-use Rattle.cadf_join.specs.Contents.{Text, Texts, text_cmp, texts_cmp}
-use Rattle.cadf_join.specs.Prefixes.{texts_at}
-use Rattle.cadf_pathset.specs.Nodes.{Agree, IsLine, last_text, list_at, place, shared}
+use Rattle.cadf_pathset.proofs.Common.{common_steps, ◌≡◌, ℕ, ◌+◌, ◌<◌, ◌≤◌, min, List, [], true, false, ap, sym, ◌∙◌, length, take, get_or, arith, Bor, length-map, length-take, take-map, Ordering, Less, Equal, Greater, true≢false, is_eq, nat_cmp, Text, Texts, text_cmp, texts_cmp, texts_at, Agree, IsLine, last_text, list_at, place, shared}
 use Rattle.cadf_pathset.proofs.Agreement.{agree_more, parted, ended}
 use Rattle.cadf_pathset.proofs.Threads.{text_on_line}
 

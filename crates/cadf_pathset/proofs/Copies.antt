@@ -1,19 +1,5 @@
 -- The texts that lists share which are visited and copied.
-use Rattle.std.proofs.lemmas.Grind.{common_steps}
-use Rattle.std.proofs.Common.{◌≡◌, ℕ, Bool, true, false, cond, ◌≤◌, ◌<◌, ◌-◌, nat_eq, get_or, List, [], ◌∷◌, ◌++◌, refl, sym, ap, ◌∙◌, subst, length, min, map, take, arith}
-use Rattle.std.proofs.lemmas.List.{append_assoc, length-take-le, take-take}
-use Rattle.std.proofs.lemmas.Bool.Decides.{nat_tests}
-use Rattle.std.specs.List.{AllByRecursion, filter}
-use Rattle.std.specs.List.Sorted.{IsStrictlySortedBy}
-use Rattle.std.specs.declared.cmp.Ordering.{Ordering}
-use Rattle.std.specs.declared.cmp.Ordering.TheVariants.{Less, Equal, Greater}
-use Rattle.std.specs.Ordering.{match_ordering, ordering_reverse}
-use Rattle.cadf_join.specs.Contents.{Texts, texts_cmp}
-use Rattle.cadf_join.specs.laws.Contents.{texts_total}
-use Rattle.cadf_pathset.specs.Lists.{chosen_of, last_of}
-use Rattle.cadf_pathset.specs.Merge.{sorted_without}
-use Rattle.cadf_pathset.specs.Nodes.{Agree, last_node, list_at, lists_at, place, shared}
-use Rattle.cadf_pathset.specs.Walks.{Place, Steps, lists_ahead}
+use Rattle.cadf_pathset.proofs.Common.{common_steps, ◌≡◌, ℕ, Bool, true, false, cond, ◌≤◌, ◌<◌, ◌-◌, nat_eq, get_or, List, [], ◌∷◌, ◌++◌, refl, sym, ap, ◌∙◌, subst, length, min, map, take, arith, append_assoc, length-take-le, take-take, nat_tests, AllByRecursion, filter, IsStrictlySortedBy, Ordering, Less, Equal, Greater, match_ordering, ordering_reverse, Texts, texts_cmp, texts_total, chosen_of, last_of, sorted_without, Agree, last_node, list_at, lists_at, place, shared, Place, Steps, lists_ahead}
 use Rattle.cadf_pathset.proofs.Agreement.{agree_less, agree_through, agree_turned}
 use Rattle.cadf_pathset.proofs.CarrierLists.{last-more}
 use Rattle.cadf_pathset.proofs.Merging.{agree_shared}

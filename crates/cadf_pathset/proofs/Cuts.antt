@@ -1,11 +1,5 @@
 -- Texts one after another in a block: one of them, a further one, and the first of them.
-use Rattle.std.proofs.lemmas.Grind.{common_steps}
-use Rattle.std.proofs.Common.{◌≡◌, ℕ, ◌+◌, ◌-◌, ◌<◌, ◌≤◌, List, [], ◌∷◌, ◌++◌, refl, sym, ap, ◌∙◌, subst, suc, zero, length, take, drop, get_or, arith}
-use Rattle.std.proofs.lemmas.List.{drop-drop, drop-take, length-take, length-drop, take-append-le, drop-append-le, take-take, take_all}
-use Rattle.std.proofs.lemmas.Str.{IsUtf8-drop, IsUtf8-take, IsCharBoundary-start, IsCharBoundary-end, IsCharBoundary-from_rest, IsCharBoundary-from_take}
-use Rattle.std.specs.Str.{IsUtf8, IsCharBoundary}
-use Rattle.cadf_join.specs.Contents.{Texts}
-use Rattle.cadf_pathset.specs.Block.{AreEnds, texts_from}
+use Rattle.cadf_pathset.proofs.Common.{common_steps, ◌≡◌, ℕ, ◌+◌, ◌-◌, ◌<◌, ◌≤◌, List, [], ◌∷◌, ◌++◌, refl, sym, ap, ◌∙◌, subst, suc, zero, length, take, drop, get_or, arith, drop-drop, drop-take, length-take, length-drop, take-append-le, drop-append-le, take-take, take_all, IsUtf8-drop, IsUtf8-take, IsCharBoundary-start, IsCharBoundary-end, IsCharBoundary-from_rest, IsCharBoundary-from_take, IsUtf8, IsCharBoundary, Texts, AreEnds, texts_from}
 use Rattle.cadf_pathset.proofs.Grown.{boundary_grown}
 
 pub texts_count : (s : ℕ) (es bs : List ℕ) → length (texts_from s es bs) ≡ length es

@@ -1,9 +1,5 @@
 -- The first of some nodes.
-use Rattle.std.proofs.lemmas.Grind.{common_steps}
-use Rattle.std.proofs.Common.{◌≡◌, ℕ, ◌+◌, List, [], ◌∷◌, ◌++◌, refl, sym, ap, ◌∙◌, suc, zero, length, take, arith}
-use Rattle.std.proofs.lemmas.List.{length_push, length-take, take-take, take_all, take_at}
-use Rattle.cadf_join.specs.Contents.{Texts}
-use Rattle.cadf_pathset.specs.Nodes.{list_at, lists_from, lists, ParentsFirst, AreNodes}
+use Rattle.cadf_pathset.proofs.Common.{common_steps, ◌≡◌, ℕ, ◌+◌, List, [], ◌∷◌, ◌++◌, refl, sym, ap, ◌∙◌, suc, zero, length, take, arith, length_push, length-take, take-take, take_all, take_at, Texts, list_at, lists_from, lists, ParentsFirst, AreNodes}
 
 from_front : (known : List Texts) (ps : List ℕ) (ts : Texts) → take (length known) (lists_from known ps ts) ≡ known
 unfolding lists_from

@@ -1,25 +1,8 @@
 -- The sections of strictly ascending lists: that of the least first text, and those above it.
 --     children ls    the first texts of the lists, each once, in order
-use Rattle.std.proofs.lemmas.Grind.{common_steps}
-use Rattle.std.proofs.Common.{◌≡◌, ℕ, ◌+◌, ◌<◌, ◌≤◌, suc, zero, true, false, List, [], ◌∷◌, Option, Some, None, refl, sym, ap, ◌∙◌, subst}
-use Rattle.std.proofs.Common.{take, drop, get_or, map, length, arith, le-leb}
-use Rattle.std.proofs.lemmas.List.{length-map}
-use Rattle.std.specs.Prelude.{is_some, nat_le}
-use mathlib.Core.Bool.{true≢false}
-use Rattle.std.specs.declared.cmp.Ordering.{Ordering}
-use Rattle.std.specs.declared.cmp.Ordering.TheVariants.{Less, Equal, Greater}
-use Rattle.std.specs.Ordering.{match_ordering, ordering_reverse}
-use Rattle.std.specs.Cmp.{tied_itself}
-use Rattle.std.specs.List.{AllByRecursion}
-use Rattle.std.specs.List.Sorted.{IsStrictlySortedBy}
-use Rattle.cadf_join.specs.Contents.{Text, Texts, Contents, text_cmp, texts_cmp, suffixes_of, tails_of}
-use Rattle.cadf_join.specs.laws.Contents.{text_total, text_same, texts_total, texts_same}
-use Rattle.cadf_join.specs.laws.Rising.{from_list-rising, rising-from_list, rising_is_sorted}
+use Rattle.cadf_pathset.proofs.Common.{common_steps, ◌≡◌, ℕ, ◌+◌, ◌<◌, ◌≤◌, suc, zero, true, false, List, [], ◌∷◌, Option, Some, None, refl, sym, ap, ◌∙◌, subst, take, drop, get_or, map, length, arith, le-leb, length-map, is_some, nat_le, true≢false, Ordering, Less, Equal, Greater, match_ordering, ordering_reverse, tied_itself, AllByRecursion, IsStrictlySortedBy, Text, Texts, Contents, text_cmp, texts_cmp, suffixes_of, tails_of, text_total, text_same, texts_total, texts_same, from_list-rising, rising-from_list, rising_is_sorted, firsts, heads, first_text, is_before, sections_from, sections_of}
 use Rattle.cadf_join.specs.laws.Sets as sets
-use Rattle.cadf_join.specs.Maps.{firsts, heads}
 use Rattle.cadf_join.specs.Sets as set
-use Rattle.cadf_pathset.specs.Lists.{first_text, is_before}
-use Rattle.cadf_pathset.specs.Sections.{sections_from, sections_of}
 use Rattle.cadf_pathset.specs.declared.suffix_set.Section as held
 use Rattle.cadf_pathset.proofs.Behind.{rests_from, rests_rise, section_of}
 use Rattle.cadf_pathset.proofs.Firsts.{below_all, twice}

@@ -1,15 +1,6 @@
 -- The members of a set after a given one, from an ascending list of them that may have duplicates.
-use Rattle.std.proofs.Common.{◌≡◌, Bool, true, false, cond, List, [], ◌∷◌, Option, Some, refl, sym, ap, ◌∙◌, subst, ◌||◌}
-use Rattle.std.specs.declared.cmp.Ordering.{Ordering}
-use Rattle.std.specs.declared.cmp.Ordering.TheVariants.{Less, Equal, Greater}
-use Rattle.std.specs.Ordering.{eq_by_cmp}
-use Rattle.std.specs.Cmp.{IsTotalOrder}
-use Rattle.std.specs.List.{AllByRecursion, find, list_any}
-use Rattle.std.specs.List.Sorted.{IsStrictlySortedBy}
+use Rattle.cadf_pathset.proofs.Common.{◌≡◌, Bool, true, false, cond, List, [], ◌∷◌, Option, Some, refl, sym, ap, ◌∙◌, subst, ◌||◌, Ordering, Less, Equal, Greater, eq_by_cmp, IsTotalOrder, AllByRecursion, find, list_any, IsStrictlySortedBy, IsAntisymmetric, contains-from_list, Listed, listed_any, contains-rising, rising-from_list, rising_is_sorted, listed-rising, listed-AllByRecursion, AllByRecursion-listed}
 use Rattle.cadf_join.specs.Sets as set
-use Rattle.cadf_join.specs.Sets.{IsAntisymmetric, contains-from_list, Listed}
-use Rattle.cadf_join.specs.laws.Rising.{listed_any, contains-rising, rising-from_list, rising_is_sorted}
-use Rattle.cadf_join.specs.laws.Rising.{listed-rising, listed-AllByRecursion, AllByRecursion-listed}
 use Rattle.cadf_pathset.proofs.Grown.{all_turned}
 
 module _ {K : Type 0} {R : K → K → Ordering} (o : IsTotalOrder R) (same : IsAntisymmetric R) where

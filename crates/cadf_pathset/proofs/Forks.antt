@@ -1,14 +1,5 @@
 -- Lists that diverge, and lists of which they are prefixes.
-use Rattle.std.proofs.Common.{◌≡◌, ℕ, List, [], ◌∷◌, ◌++◌, refl, sym, ap, ◌∙◌, subst, append_assoc, length}
-use Rattle.std.specs.declared.cmp.Ordering.{Ordering}
-use Rattle.std.specs.declared.cmp.Ordering.TheVariants.{Less, Equal, Greater}
-use Rattle.std.specs.Ordering.{ordering_then}
-use Rattle.std.specs.Cmp.{tied_itself}
-use Rattle.cadf_join.specs.Contents.{Text, Texts, text_cmp, texts_cmp}
-use Rattle.cadf_join.specs.laws.Contents.{texts_total}
-use Rattle.cadf_pathset.specs.Fork.{IsFork, IsForkAt}
-use Rattle.cadf_pathset.specs.Nodes.{list_at}
-use Rattle.cadf_pathset.specs.declared.sort.Fork.{Fork}
+use Rattle.cadf_pathset.proofs.Common.{◌≡◌, ℕ, List, [], ◌∷◌, ◌++◌, refl, sym, ap, ◌∙◌, subst, append_assoc, length, Ordering, Less, Equal, Greater, ordering_then, tied_itself, Text, Texts, text_cmp, texts_cmp, texts_total, IsFork, IsForkAt, list_at, Fork}
 use Rattle.cadf_pathset.proofs.Orders.{cmp_ends, cmp_parts, then_equal}
 
 less_is_not : Less ≡ Equal → ⊥

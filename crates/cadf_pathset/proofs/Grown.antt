@@ -1,10 +1,5 @@
 -- Lists that were appended to, and the character boundaries of a text that was appended to.
-use Rattle.std.proofs.lemmas.Grind.{common_steps}
-use Rattle.std.proofs.Common.{◌≡◌, ℕ, List, [], ◌∷◌, ◌++◌, refl, sym, ap, ◌∙◌, length, take, drop, map, arith}
-use Rattle.std.proofs.lemmas.List.{length-append, take-append-drop, take-append-le}
-use Rattle.std.proofs.lemmas.Str.{IsUtf8-take, IsCharBoundary-from_take}
-use Rattle.std.specs.List.{AllByRecursion}
-use Rattle.std.specs.Str.{IsUtf8, IsCharBoundary}
+use Rattle.cadf_pathset.proofs.Common.{common_steps, ◌≡◌, ℕ, List, [], ◌∷◌, ◌++◌, refl, sym, ap, ◌∙◌, length, take, drop, map, arith, length-append, take-append-drop, take-append-le, IsUtf8-take, IsCharBoundary-from_take, AllByRecursion, IsUtf8, IsCharBoundary}
 
 pub all_more : {A : Type 0} (P : A → Type 0) (xs : List A) (x : A) → AllByRecursion P xs → P x → AllByRecursion P (xs ++ x ∷ [])
 all_more P [] x h p = (p, tt)

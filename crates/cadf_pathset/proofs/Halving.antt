@@ -1,23 +1,9 @@
 -- The result of a binary search in strictly ascending lists.
-use Rattle.std.proofs.lemmas.Grind.{common_steps}
-use Rattle.std.proofs.Common.{◌≡◌, ℕ, ◌+◌, ◌≤◌, ◌<◌, Bool, true, false, List, [], ◌∷◌, ◌++◌}
-use Rattle.std.proofs.Common.{refl, sym, ap, ◌∙◌, suc, zero, length, take, drop, get_or, ◌||◌, arith, None, Some}
-use mathlib.Core.Bool.{true≢false}
-use Rattle.std.specs.declared.cmp.Ordering.{Ordering}
-use Rattle.std.specs.declared.cmp.Ordering.TheVariants.{Less, Equal, Greater}
-use Rattle.std.specs.Ordering.{match_ordering, ordering_then, ordering_reverse, eq_by_cmp, is_eq, is_lt}
-use Rattle.std.specs.Cmp.{tied_itself}
-use Rattle.std.specs.List.{AllByRecursion, list_any}
-use Rattle.std.specs.List.Sorted.{IsStrictlySortedBy}
+use Rattle.cadf_pathset.proofs.Common.{common_steps, ◌≡◌, ℕ, ◌+◌, ◌≤◌, ◌<◌, Bool, true, false, List, [], ◌∷◌, ◌++◌, refl, sym, ap, ◌∙◌, suc, zero, length, take, drop, get_or, ◌||◌, arith, None, Some, true≢false, Ordering, Less, Equal, Greater, match_ordering, ordering_then, ordering_reverse, eq_by_cmp, is_eq, is_lt, tied_itself, AllByRecursion, list_any, IsStrictlySortedBy, Result, Ok, Err, IfOk, IfErr, is_ok, Texts, Contents, is_after, text_cmp, texts_cmp, text_total, text_same, texts_total, contents_same, contains-from_list, contains-insert, prefix_cmp, is_before}
 use Rattle.cadf_join.specs.laws.Sets as sets
-use Rattle.std.specs.Prelude.{Result, Ok, Err, IfOk, IfErr, is_ok}
-use Rattle.cadf_join.specs.Contents.{Texts, Contents, is_after, text_cmp, texts_cmp}
-use Rattle.cadf_join.specs.laws.Contents.{text_total, text_same, texts_total, contents_same}
 use Rattle.cadf_join.specs.Sets as set
-use Rattle.cadf_join.specs.Sets.{contains-from_list, contains-insert}
 use Rattle.cadf_pathset.proofs.Grown.{all_turned}
 use Rattle.cadf_pathset.proofs.Inserts.{all_put}
-use Rattle.cadf_pathset.specs.Lists.{prefix_cmp, is_before}
 
 -- lists below a list that is before the bound are before the bound
 pub before_below : (p : Texts) (more : Bool) (a b : Texts) → texts_cmp a b ≡ Less → is_before p more b ≡ true → is_before p more a ≡ true

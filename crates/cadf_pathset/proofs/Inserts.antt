@@ -1,7 +1,5 @@
 -- One more, inserted at its place.
-use Rattle.std.proofs.Common.{◌≡◌, ◌≤◌, ℕ, List, [], ◌∷◌, ◌++◌, refl, ap, suc, zero, length, take, drop, map}
-use Rattle.std.proofs.lemmas.List.{take_all, drop_all}
-use Rattle.std.specs.List.{AllByRecursion}
+use Rattle.cadf_pathset.proofs.Common.{◌≡◌, ◌≤◌, ℕ, List, [], ◌∷◌, ◌++◌, refl, ap, suc, zero, length, take, drop, map, take_all, drop_all, AllByRecursion}
 
 pub map_put : {A B : Type 0} (f : A → B) (xs : List A) (n : ℕ) (x : A) → map f (take n xs ++ x ∷ drop n xs) ≡ take n (map f xs) ++ f x ∷ drop n (map f xs)
 map_put f xs zero x = refl

@@ -6,6 +6,7 @@ pub mod Bounds
 pub mod CarrierLists
 pub mod Chained
 pub mod Climbs
+pub mod Common
 pub mod Compared
 pub mod Copies
 pub mod Cuts

@@ -1,13 +1,7 @@
 -- One line of membership for each set that the contracts name.
-use Rattle.std.proofs.Common.{◌≡◌, ◌⊎◌, List, [], ◌∷◌, ◌++◌, map, refl, sym, ap, subst, ◌∙◌, inl, inr}
-use Rattle.std.specs.Prelude.{◌↔◌}
+use Rattle.cadf_pathset.proofs.Common.{◌≡◌, ◌⊎◌, List, [], ◌∷◌, ◌++◌, map, refl, sym, ap, subst, ◌∙◌, inl, inr, ◌↔◌, Listed, Texts, Contents, Has, suffixes_of, texts_total, texts_same, contains-section, with_carriers_by, suffixes_after}
 use Rattle.cadf_join.specs.Sets as set
-use Rattle.cadf_join.specs.Sets.{Listed}
-use Rattle.cadf_join.specs.Contents.{Texts, Contents, Has, suffixes_of}
-use Rattle.cadf_join.specs.laws.Contents.{texts_total, texts_same, contains-section}
 use Rattle.cadf_join.proofs.Members as members
-use Rattle.cadf_pathset.specs.Carriers.{with_carriers_by}
-use Rattle.cadf_pathset.specs.Sections.{suffixes_after}
 
 pub in_suffixes : (s : Contents) (p r : Texts) → Has (suffixes_after s p) r ↔ Has s (p ++ r)
 in_suffixes s [] r = (λ h. h, λ h. h)

@@ -1,21 +1,8 @@
 -- The sets of two strictly ascending lists merged, and of the first without the second.
-use Rattle.std.proofs.Common.{◌≡◌, true, List, [], ◌∷◌, ◌++◌, refl, sym, ap, ◌∙◌, subst, inl, inr, ◌⊎◌, ℕ, suc, zero, take, drop}
-use mathlib.Core.Bool.{true≢false}
-use Rattle.std.specs.declared.cmp.Ordering.{Ordering}
-use Rattle.std.specs.declared.cmp.Ordering.TheVariants.{Less, Equal, Greater}
-use Rattle.std.specs.Ordering.{match_ordering, ordering_reverse, is_eq}
-use Rattle.std.specs.List.{AllByRecursion}
-use Rattle.std.specs.Prelude.{not}
-use Rattle.std.specs.List.Sorted.{IsStrictlySortedBy}
-use Rattle.std.specs.Cmp.{IsTotalOrder, tied_itself}
+use Rattle.cadf_pathset.proofs.Common.{◌≡◌, true, List, [], ◌∷◌, ◌++◌, refl, sym, ap, ◌∙◌, subst, inl, inr, ◌⊎◌, ℕ, suc, zero, take, drop, true≢false, Ordering, Less, Equal, Greater, match_ordering, ordering_reverse, is_eq, AllByRecursion, not, IsStrictlySortedBy, IsTotalOrder, tied_itself, IsAntisymmetric, Listed, AllByRecursion-listed, listed-AllByRecursion, contains-from_list, contains-union, contains-difference, any_listed, listed_any, sorted_merge, merge_step, sorted_without, without_step}
 use Rattle.cadf_join.specs.Sets as set
-use Rattle.cadf_join.specs.Sets.{IsAntisymmetric, Listed}
-use Rattle.cadf_join.specs.laws.Rising.{AllByRecursion-listed, listed-AllByRecursion}
-use Rattle.cadf_join.specs.Sets.{contains-from_list, contains-union, contains-difference}
-use Rattle.cadf_join.specs.laws.Rising.{any_listed, listed_any}
 use Rattle.cadf_join.specs.laws.Sets as sets
 use Rattle.cadf_pathset.proofs.Grown.{all_more}
-use Rattle.cadf_pathset.specs.Merge.{sorted_merge, merge_step, sorted_without, without_step}
 
 module _ {K : Type 0} (R : K → K → Ordering) where
   pub alone : (xs : List K) → sorted_merge R true xs [] ≡ xs

@@ -1,19 +1,7 @@
 -- Steps of a merge of two ascending lists, and its invariants.
-use Rattle.std.proofs.lemmas.Grind.{common_steps}
-use Rattle.std.proofs.Common.{◌≡◌, ℕ, Bool, true, false, ◌+◌, ◌-◌, ◌<◌, ◌≤◌, List, [], ◌∷◌, ◌++◌, refl, sym, ap, ◌∙◌, subst, suc, zero, length, take, min}
-use Rattle.std.proofs.Common.{drop, get_or, arith}
-use Rattle.std.proofs.lemmas.List.{append_assoc, drop-drop, drop-map, length-take, take-take, take_all, map-append, drop_more, drop_all}
+use Rattle.cadf_pathset.proofs.Common.{common_steps, ◌≡◌, ℕ, Bool, true, false, ◌+◌, ◌-◌, ◌<◌, ◌≤◌, List, [], ◌∷◌, ◌++◌, refl, sym, ap, ◌∙◌, subst, suc, zero, length, take, min, drop, get_or, arith, append_assoc, drop-drop, drop-map, length-take, take-take, take_all, map-append, drop_more, drop_all, AllByRecursion, Ordering, Less, Equal, Greater, match_ordering, Texts, text_cmp, texts_cmp, text_same, texts_same, texts_total, sorted_merge, Agree, AreThere, IsLine, list_at, lists_at, place, shared, IsLinePrefix, Place, lists_ahead}
 use Rattle.cadf_pathset.proofs.Merges.{alone, merge_skip}
 use Rattle.cadf_pathset.proofs.Grown.{map_more}
-use Rattle.std.specs.List.{AllByRecursion}
-use Rattle.std.specs.declared.cmp.Ordering.{Ordering}
-use Rattle.std.specs.declared.cmp.Ordering.TheVariants.{Less, Equal, Greater}
-use Rattle.std.specs.Ordering.{match_ordering}
-use Rattle.cadf_join.specs.Contents.{Texts, text_cmp, texts_cmp}
-use Rattle.cadf_join.specs.laws.Contents.{text_same, texts_same, texts_total}
-use Rattle.cadf_pathset.specs.Merge.{sorted_merge}
-use Rattle.cadf_pathset.specs.Nodes.{Agree, AreThere, IsLine, list_at, lists_at, place, shared}
-use Rattle.cadf_pathset.specs.Walks.{IsLinePrefix, Place, lists_ahead}
 use Rattle.cadf_pathset.proofs.Agreement.{agree_less, agree_through, agree_turned}
 use Rattle.cadf_pathset.proofs.Threads.{agree_none, at_kept, line_cut, line_kept, lists_kept, nodes_fit, place_kept, self_line}
 

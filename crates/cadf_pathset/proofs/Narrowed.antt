@@ -1,14 +1,7 @@
 -- The lists between two bounds, each without one further text, are the suffixes after a text.
-use Rattle.std.proofs.Common.{◌≡◌, ℕ, suc, zero, true, false, List, [], ◌∷◌, refl, sym, ap, ◌∙◌, subst, length, take, drop, map}
-use Rattle.std.specs.List.{AllByRecursion, take-map, drop-map}
-use Rattle.std.specs.List.Sorted.{IsStrictlySortedBy}
-use Rattle.std.proofs.lemmas.List.{length-map}
-use Rattle.cadf_join.specs.Contents.{Text, Texts, Contents, tails_of, texts_cmp}
+use Rattle.cadf_pathset.proofs.Common.{◌≡◌, ℕ, suc, zero, true, false, List, [], ◌∷◌, refl, sym, ap, ◌∙◌, subst, length, take, drop, map, AllByRecursion, IsStrictlySortedBy, length-map, Text, Texts, Contents, tails_of, texts_cmp, texts_total, texts_same, rising-from_list, is_before, rest_of, IsThere}
+use Rattle.std.specs.List.{take-map, drop-map}
 use Rattle.cadf_join.specs.Sets as set
-use Rattle.cadf_join.specs.laws.Contents.{texts_total, texts_same}
-use Rattle.cadf_join.specs.laws.Rising.{rising-from_list}
-use Rattle.cadf_pathset.specs.Lists.{is_before}
-use Rattle.cadf_pathset.specs.Nodes.{rest_of, IsThere}
 use Rattle.cadf_pathset.proofs.Behind.{rests_between, rests_from, rests_up_to}
 use Rattle.cadf_pathset.proofs.Grown.{map_same}
 

@@ -1,11 +1,5 @@
 -- The list that extends a prefix of another by one text.
-use Rattle.std.proofs.lemmas.Grind.{common_steps}
-use Rattle.std.proofs.Common.{◌≡◌, ℕ, ◌+◌, ◌<◌, [], ◌∷◌, ◌++◌, refl, sym, ap, ◌∙◌, length, take, drop, get_or, arith}
-use Rattle.std.proofs.lemmas.List.{drop_more, take-append-drop}
-use Rattle.std.specs.Ordering.{is_lt, ordering_then}
-use Rattle.std.specs.Cmp.{tied_itself}
-use Rattle.cadf_join.specs.Contents.{Text, Texts, text_cmp, texts_cmp}
-use Rattle.cadf_join.specs.laws.Contents.{texts_total}
+use Rattle.cadf_pathset.proofs.Common.{common_steps, ◌≡◌, ℕ, ◌+◌, ◌<◌, [], ◌∷◌, ◌++◌, refl, sym, ap, ◌∙◌, length, take, drop, get_or, arith, drop_more, take-append-drop, is_lt, ordering_then, tied_itself, Text, Texts, text_cmp, texts_cmp, texts_total}
 use Rattle.cadf_pathset.proofs.Orders.{cmp_parts}
 
 behind_front : (a c d : Texts) → texts_cmp (a ++ c) (a ++ d) ≡ texts_cmp c d

@@ -1,10 +1,6 @@
 -- The members at some indices, of lists that are numbered.
-use Rattle.std.proofs.Common.{◌≡◌, ◌<◌, ◌+◌, ℕ, zero, suc, List, [], ◌∷◌, ◌++◌, map, length, get_or, drop, refl, ap, ◌∙◌, sym}
-use Rattle.std.specs.Prelude.{Option, Some, None, slice_get, option_map}
-use Rattle.std.specs.List.{AllByRecursion, cons_option}
-use Rattle.std.proofs.lemmas.List.{append_assoc, drop_more}
-use Rattle.std.proofs.lemmas.Option.{slice_get-map}
-use Rattle.cadf_pathset.specs.Lists.{at_places}
+use Rattle.cadf_pathset.proofs.Common.{◌≡◌, ◌<◌, ◌+◌, ℕ, zero, suc, List, [], ◌∷◌, ◌++◌, map, length, get_or, drop, refl, ap, ◌∙◌, sym, Option, Some, None, slice_get, AllByRecursion, cons_option, append_assoc, drop_more, slice_get-map, at_places}
+use Rattle.std.specs.Prelude.{option_map}
 
 -- the members of a list that is the image of another
 pub placed_map : {A B : Type 0} (f : A → B) (is : List ℕ) (xs : List A) → map f (at_places is xs) ≡ at_places is (map f xs)

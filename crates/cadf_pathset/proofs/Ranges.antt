@@ -1,8 +1,5 @@
 -- A test that the lists from some index on pass, and none before it.
-use Rattle.std.proofs.lemmas.Grind.{common_steps}
-use Rattle.std.proofs.Common.{◌≡◌, ℕ, Bool, true, false, cond, List, [], ◌∷◌, Some, None, refl, sym, ap, ◌∙◌, suc, zero, take, drop, arith}
-use Rattle.std.specs.List.{AllByRecursion, find}
-use Rattle.cadf_join.specs.Contents.{Texts}
+use Rattle.cadf_pathset.proofs.Common.{common_steps, ◌≡◌, ℕ, Bool, true, false, cond, List, [], ◌∷◌, Some, None, refl, sym, ap, ◌∙◌, suc, zero, take, drop, arith, AllByRecursion, find, Texts}
 
 pub found_first : {A : Type 0} (f : A → Bool) (xs : List A) (n : ℕ) → AllByRecursion (λ x. f x ≡ false) (take n xs) → find f (drop n xs) ≡ find f xs
 found_first f xs zero h = refl

@@ -1,12 +1,5 @@
 -- A path whose suffix is replaced by a list that shares first texts with it.
-use Rattle.std.proofs.lemmas.Grind.{common_steps}
-use Rattle.std.proofs.Common.{◌≡◌, ℕ, ◌+◌, ◌≤◌, List, [], ◌∷◌, ◌++◌, sym, ap, subst, Some, ◌∙◌, suc, zero, append_assoc, length, take, drop, arith}
-use Rattle.std.proofs.lemmas.List.{length-append, length-map, map-append, take-append-drop, take-map, drop-map, take_at}
-use Rattle.std.specs.Borrow.{Bor}
-use Rattle.cadf_join.specs.Contents.{Texts}
-use Rattle.cadf_join.specs.Prefixes.{texts_at}
-use Rattle.cadf_pathset.specs.Nodes.{Agree}
-use Rattle.cadf_pathset.specs.Walks.{Advances, Place}
+use Rattle.cadf_pathset.proofs.Common.{common_steps, ◌≡◌, ℕ, ◌+◌, ◌≤◌, List, [], ◌∷◌, ◌++◌, sym, ap, subst, Some, ◌∙◌, suc, zero, append_assoc, length, take, drop, arith, length-append, length-map, map-append, take-append-drop, take-map, drop-map, take_at, Bor, Texts, texts_at, Agree, Advances, Place}
 use Rattle.cadf_pathset.proofs.Merging.{agree_shared}
 
 front_both : (p c : Texts) (n k : ℕ) → n ≡ length p → take (n + k) (p ++ c) ≡ p ++ take k c

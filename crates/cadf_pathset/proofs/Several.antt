@@ -1,12 +1,6 @@
 -- The first texts of sections, and how many of these have two or more first texts in turn.
-use Rattle.std.proofs.Common.{◌≡◌, suc, Bool, true, false, cond, List, [], ◌∷◌, ap, refl, map}
-use Rattle.std.specs.Prelude.{length, nat_le}
-use Rattle.std.specs.List.{filter}
-use Rattle.cadf_join.specs.Contents.{Text, Contents, suffixes_of}
-use Rattle.cadf_join.specs.Maps.{heads}
-use Rattle.cadf_join.specs.MultiValued.{multi_valued_keys}
+use Rattle.cadf_pathset.proofs.Common.{◌≡◌, suc, Bool, true, false, cond, List, [], ◌∷◌, ap, refl, map, length, nat_le, filter, Text, Contents, suffixes_of, heads, multi_valued_keys, sections_of}
 use Rattle.cadf_join.specs.Sets as set
-use Rattle.cadf_pathset.specs.Sections.{sections_of}
 
 abbrev pub text_in : Text × Contents → Text
 text_in p = p.0

@@ -1,17 +1,6 @@
 -- Merge sort: lists sorted by merging their sorted halves.
-use Rattle.std.proofs.lemmas.Grind.{common_steps}
-use Rattle.std.proofs.Common.{◌≡◌, ℕ, ◌≤◌, ◌<◌, true, List, [], ◌∷◌, ◌++◌, refl, sym, ap, ◌∙◌, subst, length, take, drop, map, get_or, arith}
-use Rattle.std.proofs.lemmas.List.{take-append-drop}
-use Rattle.std.specs.declared.cmp.Ordering.TheVariants.{Less}
-use Rattle.std.specs.List.{list_any}
-use Rattle.std.specs.List.Sorted.{IsStrictlySortedBy}
-use Rattle.std.specs.Ordering.{eq_by_cmp}
-use Rattle.cadf_join.specs.Contents.{Texts, texts_cmp}
-use Rattle.cadf_join.specs.laws.Contents.{texts_total, texts_same, contents_same}
+use Rattle.cadf_pathset.proofs.Common.{common_steps, ◌≡◌, ℕ, ◌≤◌, ◌<◌, true, List, [], ◌∷◌, ◌++◌, refl, sym, ap, ◌∙◌, subst, length, take, drop, map, get_or, arith, take-append-drop, Less, list_any, IsStrictlySortedBy, eq_by_cmp, Texts, texts_cmp, texts_total, texts_same, contents_same, contains-from_list, contains-insert, contains-union, ◌||◌, Bool, false, sorted_merge}
 use Rattle.cadf_join.specs.Sets as set
-use Rattle.cadf_join.specs.Sets.{contains-from_list, contains-insert, contains-union}
-use Rattle.std.specs.Prelude.{◌||◌, Bool, false}
-use Rattle.cadf_pathset.specs.Merge.{sorted_merge}
 use Rattle.cadf_pathset.proofs.Merges.{merged_rises, merged_is_union}
 use Rattle.cadf_pathset.proofs.Grown.{all_turned}
 

@@ -1,18 +1,5 @@
 -- The suffixes of lists, by their first texts.
-use Rattle.std.proofs.lemmas.Grind.{common_steps}
-use Rattle.std.proofs.Common.{◌≡◌, ℕ, ◌+◌, ◌≤◌, List, [], ◌∷◌, Option, Some, None, refl, sym, ap, ◌∙◌, suc, zero}
-use Rattle.std.proofs.Common.{length, drop, get_or, arith}
-use Rattle.std.proofs.lemmas.List.{drop-drop}
-use Rattle.cadf_join.specs.Contents.{Text, Texts, text_cmp}
-use Rattle.std.specs.Borrow.{Bor}
-use Rattle.std.specs.Prelude.{nat_eq}
-use Rattle.std.specs.Option.{option_copied, unwrap_or}
-use Rattle.std.specs.declared.cmp.Ordering.{Ordering}
-use Rattle.std.specs.declared.cmp.Ordering.TheVariants.{Less, Equal, Greater}
-use Rattle.std.specs.Ordering.{is_eq, match_ordering}
-use Rattle.std.proofs.lemmas.Bool.Decides.{nat_tests}
-use Rattle.cadf_pathset.specs.Lists.{first_text, last_of, last_starts_with, prefix_cmp}
-use Rattle.cadf_pathset.specs.Nodes.{shared}
+use Rattle.cadf_pathset.proofs.Common.{common_steps, ◌≡◌, ℕ, ◌+◌, ◌≤◌, List, [], ◌∷◌, Option, Some, None, refl, sym, ap, ◌∙◌, suc, zero, length, drop, get_or, arith, drop-drop, Text, Texts, text_cmp, Bor, nat_eq, option_copied, unwrap_or, Ordering, Less, Equal, Greater, is_eq, match_ordering, nat_tests, first_text, last_of, last_starts_with, prefix_cmp, shared}
 
 -- a list begins with a prefix if and only if it shares all of its texts
 prefix_by_shared : (l p : Texts) → is_eq (prefix_cmp l p) ≡ nat_eq (shared l p) (length p)

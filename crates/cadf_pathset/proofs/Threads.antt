@@ -1,11 +1,5 @@
 -- Lines of nodes: their lists, their prefixes, lines joined, and lines after nodes are appended.
-use Rattle.std.proofs.lemmas.Grind.{common_steps}
-use Rattle.std.proofs.Common.{◌≡◌, ℕ, ◌+◌, ◌-◌, ◌<◌, ◌≤◌, List, [], ◌∷◌, ◌++◌, refl, sym, ap, ◌∙◌, subst, suc, length, take, drop, get_or, arith}
-use Rattle.std.proofs.Common.{below_more}
-use Rattle.std.proofs.lemmas.List.{length_push, get_or_append_left, get_or_push, length-take, length-take-le, get_or-take, take-take, take_all}
-use Rattle.std.proofs.lemmas.List.{take_at, take_more, nil_from_length}
-use Rattle.cadf_join.specs.Contents.{Text, Texts}
-use Rattle.cadf_pathset.specs.Nodes.{list_at, last_node, last_text, place, lists_at, AreThere, IsLine, IsClimb, Agree}
+use Rattle.cadf_pathset.proofs.Common.{common_steps, ◌≡◌, ℕ, ◌+◌, ◌-◌, ◌<◌, ◌≤◌, List, [], ◌∷◌, ◌++◌, refl, sym, ap, ◌∙◌, subst, suc, length, take, drop, get_or, arith, below_more, length_push, get_or_append_left, get_or_push, length-take, length-take-le, get_or-take, take-take, take_all, take_at, take_more, nil_from_length, Text, Texts, list_at, last_node, last_text, place, lists_at, AreThere, IsLine, IsClimb, Agree}
 use Rattle.cadf_pathset.proofs.Arena.{at_grown}
 use Rattle.cadf_pathset.proofs.Grown.{grown_by, map_same, map_more, all_more, all_turned}
 

@@ -1,4 +1,5 @@
+pub mod Common
+pub mod Played
 pub mod Schedule
 pub mod Seen
-pub mod Played
 pub mod Turns

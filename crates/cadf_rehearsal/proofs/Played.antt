@@ -1,12 +1,5 @@
 -- The world after the turns so far, one turn further. The turns so far have the newest first.
-use Rattle.std.proofs.lemmas.Grind.{common_steps}
-use Rattle.std.proofs.Common.{◌≡◌, ℕ, ◌+◌, ◌<◌, ◌≤◌, List, [], ◌∷◌, ◌++◌, reverse, length, take, drop, get_or, sym, ap, ◌∙◌, arith}
-use Rattle.std.specs.Prelude.{Ok, Err}
-use Rattle.std.proofs.lemmas.List.{reverse-append, length-reverse, length-take-le, take-append-drop}
-use Rattle.cadf_join.specs.Contents.{Text, Texts}
-use Rattle.cadf_rehearsal.specs.declared.turn.Turn.{Turn}
-use Rattle.cadf_rehearsal.specs.declared.fault.RehearseFault.{RehearseFault}
-use Rattle.cadf_rehearsal.specs.Schedule.{World, world_after_turn, next, after}
+use Rattle.cadf_rehearsal.proofs.Common.{common_steps, ◌≡◌, ℕ, ◌+◌, ◌<◌, ◌≤◌, List, [], ◌∷◌, ◌++◌, reverse, length, take, drop, get_or, sym, ap, ◌∙◌, arith, Ok, Err, reverse-append, length-reverse, length-take-le, take-append-drop, Text, Texts, Turn, RehearseFault, World, world_after_turn, next, after}
 
 -- the turns so far, the newest first
 abbrev pub played : List Turn → List Turn

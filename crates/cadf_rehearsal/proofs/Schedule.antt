@@ -1,26 +1,8 @@
 -- A schedule with deltas results in the same sets as one with whole copies.
-use Rattle.std.proofs.lemmas.Grind.{common_steps}
-use Rattle.std.proofs.Common.{◌≡◌, ℕ, suc, ◌<◌, ◌≤◌, ◌≢◌, Bool, true, false, cond, List, [], ◌∷◌, refl, sym, ap, ◌∙◌, subst, inl, inr, arith, eq-eqb}
-use Rattle.std.proofs.Common.{eqb-true, ltb-true, leb-true}
-use Rattle.std.proofs.lemmas.Bool.{eqb-false}
-use Rattle.std.specs.Prelude.{Result, Ok, Err, nat_eq, nat_lt}
+use Rattle.cadf_rehearsal.proofs.Common.{common_steps, ◌≡◌, ℕ, suc, ◌<◌, ◌≤◌, ◌≢◌, Bool, true, false, cond, List, [], ◌∷◌, refl, sym, ap, ◌∙◌, subst, inl, inr, arith, eq-eqb, eqb-true, ltb-true, leb-true, eqb-false, Result, Ok, Err, nat_eq, nat_lt, Text, Texts, Contents, Has, IsWithin, texts_total, texts_same, IsGrounded, missing, missing_by, digests_of, unknown, NoCollision, document_atoms, DocumentParts, Turn, Learn, Ask, Answer, Send, Deliver, RehearseFault, WrongAddressee, Message, Inventory, PartFor, Whole, World, start, with_at, adds, makes, is_message, is_of_log, Means, delivered, answered, world_after_turn, next, after, made_by, plain, carried, learnt_atoms, missing_within, missing_by_is, part_suffices, missing_or_held, with_carriers_least, unknown_has, grounded_union, grounded_empty, document_grounded}
 use Rattle.cadf_join.specs.Sets as set
-use Rattle.cadf_join.specs.Contents.{Text, Texts, Contents, Has, IsWithin}
-use Rattle.cadf_join.specs.laws.Contents.{texts_total, texts_same}
 use Rattle.cadf_join.proofs.Members as members
 use Rattle.cadf_join.specs.laws.Sets as laws
-use Rattle.cadf_line.specs.Atoms.{IsGrounded}
-use Rattle.cadf_line.specs.Missing.{missing, missing_by, digests_of, unknown, NoCollision}
-use Rattle.cadf_atom.specs.Contributions.{document_atoms}
-use Rattle.cadf_event.specs.Document.{DocumentParts}
-use Rattle.cadf_rehearsal.specs.declared.turn.Turn.{Turn}
-use Rattle.cadf_rehearsal.specs.declared.turn.Turn.TheVariants.{Learn, Ask, Answer, Send, Deliver}
-use Rattle.cadf_rehearsal.specs.declared.fault.RehearseFault.{RehearseFault}
-use Rattle.cadf_rehearsal.specs.declared.fault.RehearseFault.TheVariants.{WrongAddressee}
-use Rattle.cadf_rehearsal.specs.Schedule.{Message, Inventory, PartFor, Whole, World, start, with_at, adds, makes, is_message, is_of_log, Means}
-use Rattle.cadf_rehearsal.specs.Schedule.{delivered, answered, world_after_turn, next, after, made_by, plain, carried, learnt_atoms}
-use Rattle.cadf_line.proofs.Missing.{missing_within, missing_by_is, part_suffices, missing_or_held, with_carriers_least, unknown_has}
-use Rattle.cadf_set.proofs.ContributionLaws.{grounded_union, grounded_empty, document_grounded}
 
 cond_ok : {A C : Type 0} (b : Bool) (r : Result A C) (c : C) (x : A) → cond b r (Err c) ≡ Ok x → (b ≡ true) × (r ≡ Ok x)
 cond_ok b r c x h = grind (arith, common_steps)

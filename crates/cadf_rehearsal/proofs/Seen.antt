@@ -1,15 +1,6 @@
 -- A federation's vectors, as the functions of a world.
-use Rattle.std.proofs.lemmas.Grind.{common_steps}
-use Rattle.std.proofs.Common.{◌≡◌, ℕ, suc, zero, ◌-◌, ◌<◌, ◌≤◌, Bool, true, false, cond, List, [], ◌∷◌, ◌++◌, map, length, get_or, set, refl, sym, ap, ◌∙◌}
-use Rattle.std.proofs.Common.{arith, lt-ltb, le-leb, ne_eqb, sub-one, ◌≢◌}
-use Rattle.std.specs.Prelude.{Result, Ok, Err, nat_eq}
+use Rattle.cadf_rehearsal.proofs.Common.{common_steps, ◌≡◌, ℕ, suc, zero, ◌-◌, ◌<◌, ◌≤◌, Bool, true, false, cond, List, [], ◌∷◌, ◌++◌, map, length, get_or, set, refl, sym, ap, ◌∙◌, arith, lt-ltb, le-leb, ne_eqb, sub-one, ◌≢◌, Result, Ok, Err, nat_eq, Text, Contents, World, Message, with_at, adds, makes, is_message, ReplicaModel, same_lists, get_or-map-range_with_len, length-map-range_with_len, at_or, at_number, held_at, log_at, left_by}
 use Rattle.cadf_join.specs.Sets as sets
-use Rattle.cadf_join.specs.Contents.{Text, Contents}
-use Rattle.cadf_rehearsal.specs.Schedule.{World, Message, with_at, adds, makes, is_message}
-use Rattle.cadf_set.specs.Replica.{ReplicaModel}
-use Rattle.std.proofs.lemmas.List.{same_lists}
-use Rattle.std.proofs.lemmas.List.FromFn.{get_or-map-range_with_len, length-map-range_with_len}
-use Rattle.cadf_rehearsal.specs.Federation.{at_or, at_number, held_at, log_at, left_by}
 
 zero_other : (j : ℕ) → nat_eq 0 (suc j) ≡ false
 zero_other j = let ne : 0 ≢ suc j = omega arith in ne_eqb 0 (suc j) ne

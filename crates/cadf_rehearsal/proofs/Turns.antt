@@ -1,26 +1,8 @@
 -- The effect of one turn on a federation: a site gets a set, or a message is added.
-use Rattle.std.proofs.Common.{rules}
-use Rattle.std.proofs.lemmas.Grind.{common_steps}
-use Rattle.std.proofs.Common.{arith}
-use Rattle.std.proofs.Common.{◌≡◌, ℕ, zero, suc, replicate, ◌-◌, ◌<◌, ◌≤◌, true, false, cond, length, map, get_or, ◌++◌, ◌∷◌, [], List}
-use Rattle.std.proofs.Common.{refl, sym, ap, ◌∙◌, lt-ltb}
-use Rattle.std.specs.Prelude.{Result, Err, Option, Some, None, nat_lt}
-use Rattle.std.specs.Vec.{with_item}
-use Rattle.std.proofs.lemmas.List.{length-set}
-use Rattle.cadf_join.specs.Sets as sets
-use Rattle.cadf_join.specs.Contents.{Text, Contents}
-use Rattle.cadf_set.specs.Replica.{ReplicaModel}
-use Rattle.cadf_set.specs.Refusals.{IsOfLog}
-use Rattle.std.specs.Cmp.Lexicographic.{bytes_decides}
-use Rattle.cadf_rehearsal.specs.Schedule as schedule
-use Rattle.cadf_rehearsal.specs.Federation.{at_or, at_number, held_at, log_at, message_of, log_of_message, world_of, IsOneLog, IsLater}
-use Rattle.cadf_rehearsal.specs.declared.federation.Federation.{Federation}
+use Rattle.cadf_rehearsal.proofs.Common.{rules, common_steps, arith, ◌≡◌, ℕ, zero, suc, replicate, ◌-◌, ◌<◌, ◌≤◌, true, false, cond, length, map, get_or, ◌++◌, ◌∷◌, [], List, refl, sym, ap, ◌∙◌, lt-ltb, Result, Err, Option, Some, None, nat_lt, with_item, length-set, Text, Contents, ReplicaModel, IsOfLog, bytes_decides, at_or, at_number, held_at, log_at, message_of, log_of_message, world_of, IsOneLog, IsLater, Federation, RehearseFault, Asked, atom_digest, InventoryModel, NoSite, NoMessage, NotInventory}
 use Rattle.cadf_rehearsal.specs.declared.federation.Message.{Message}
-use Rattle.cadf_rehearsal.specs.declared.fault.RehearseFault.{RehearseFault}
-use Rattle.cadf_rehearsal.specs.declared.federation.Message.TheVariants.{Asked}
-use Rattle.cadf_line.specs.Digest.{atom_digest}
-use Rattle.cadf_set.specs.Inventory.{InventoryModel}
-use Rattle.cadf_rehearsal.specs.declared.fault.RehearseFault.TheVariants.{NoSite, NoMessage, NotInventory}
+use Rattle.cadf_join.specs.Sets as sets
+use Rattle.cadf_rehearsal.specs.Schedule as schedule
 use Rattle.cadf_rehearsal.proofs.Seen.{seen_adds, at_or_read, at_number_read, all_set, all_push, made_is}
 
 abbrev pub none : schedule.Message

@@ -1,20 +1,5 @@
 -- Words separated by a space: there is one way to split them at the first.
-use Rattle.std.proofs.Common.{◌≡◌, ℕ, suc, ◌+◌, ◌<◌, ◌≤◌, List, [], ◌∷◌, ◌++◌, Bool, true, false, length, take, drop, get_or, cond, ◌-◌, length-drop}
-use Rattle.std.proofs.Common.{refl, sym, ap, ◌∙◌, subst, arith, true≢false, Option, Some, None}
-use Rattle.std.proofs.lemmas.Grind.{common_steps}
-use Rattle.memchr.specs.Find.{IsFirstByte, is_byte}
-use Rattle.cadf_join.specs.laws.Sets.{false_from}
-use Rattle.std.specs.Prelude.{◌==◌, ◌||◌, ◌^◌, decimal, not, unwrap_or}
-use Rattle.std.specs.List.{position_or_len}
-use Rattle.std.specs.Str.Parse.{AllDigits, digits_value}
-use Rattle.std.specs.Int.{IsInRange}
-use Rattle.std.proofs.lemmas.Str.Parse.{IsNumeralModel, numerals_by_value, tells_digits}
-use Rattle.std.proofs.lemmas.Fmt.{digits_decimal}
-use Rattle.std.proofs.lemmas.List.{take_all}
-use Rattle.std.proofs.lemmas.List.Sums.{split_at_first, passes_at_first, position_or_len_is}
-use Rattle.std.proofs.lemmas.Bool.Decides.{nat_tests}
-use Rattle.cadf_script.specs.Script.{IsScriptNumber, AreTwo, IsSiteAndText}
-use Rattle.cadf_script.specs.Words.{IsCut, has_blank}
+use Rattle.cadf_script.proofs.Common.{◌≡◌, ℕ, suc, ◌+◌, ◌<◌, ◌≤◌, List, [], ◌∷◌, ◌++◌, Bool, true, false, length, take, drop, get_or, cond, ◌-◌, length-drop, refl, sym, ap, ◌∙◌, subst, arith, true≢false, Option, Some, None, common_steps, IsFirstByte, is_byte, false_from, ◌==◌, ◌||◌, ◌^◌, decimal, not, unwrap_or, position_or_len, AllDigits, digits_value, IsInRange, IsNumeralModel, numerals_by_value, tells_digits, digits_decimal, take_all, split_at_first, passes_at_first, position_or_len_is, nat_tests, IsScriptNumber, AreTwo, IsSiteAndText, IsCut, has_blank}
 
 pub own : IsNumeralModel (AllDigits 10) (digits_value 10)
 own = numerals_by_value _ tells_digits

@@ -1,4 +1,5 @@
+pub mod Common
 pub mod Cuts
+pub mod Lines
 pub mod Numbers
 pub mod Turns
-pub mod Lines

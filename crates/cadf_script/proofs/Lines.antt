@@ -1,12 +1,5 @@
 -- A script is read a line at a time.
-use Rattle.std.proofs.Common.{◌≡◌, ℕ, suc, ◌+◌, ◌-◌, ◌<◌, ◌≤◌, List, [], ◌∷◌, ◌++◌, Bool, true, false, cond, length, take, drop, refl, sym, ap, ◌∙◌}
-use Rattle.std.proofs.Common.{subst, arith, inl, inr, append_assoc, append-nil, length-append, length-drop}
-use Rattle.std.specs.Prelude.{◌==◌, not, if◌then◌else◌}
-use Rattle.std.specs.List.{position_or_len}
-use Rattle.std.proofs.lemmas.List.{drop_all, drop-drop, take_all}
-use Rattle.cadf_event.specs.Parts.{EachPair}
-use Rattle.cadf_rehearsal.specs.declared.turn.Turn.{Turn}
-use Rattle.cadf_script.specs.Script.{put_into_first, lines_of, IsTurn, IsNoTurn, IsScript, IsFirstBad}
+use Rattle.cadf_script.proofs.Common.{◌≡◌, ℕ, suc, ◌+◌, ◌-◌, ◌<◌, ◌≤◌, List, [], ◌∷◌, ◌++◌, Bool, true, false, cond, length, take, drop, refl, sym, ap, ◌∙◌, subst, arith, inl, inr, append_assoc, append-nil, length-append, length-drop, ◌==◌, not, if◌then◌else◌, position_or_len, drop_all, drop-drop, take_all, EachPair, Turn, put_into_first, lines_of, IsTurn, IsNoTurn, IsScript, IsFirstBad}
 
 abbrev IsFirstLine : List ℕ → Type 0
 IsFirstLine xs =

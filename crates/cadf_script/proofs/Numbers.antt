@@ -1,16 +1,5 @@
 -- A number's word: its digits, and nothing else.
-use Rattle.std.proofs.Common.{◌≡◌, ◌≢◌, ℕ, zero, suc, ◌<◌, ◌≤◌, List, [], ◌∷◌, true, false, length, get_or, Result, Ok, Some, None, sym, ap, ◌∙◌, subst}
-use Rattle.std.proofs.Common.{arith, true≢false}
-use Rattle.std.specs.Prelude.{◌^◌, decimal, IsUtf8}
-use Rattle.std.specs.Str.Parse.{ParsesUnsigned}
-use Rattle.std.specs.Int.{IsInRange}
-use Rattle.std.specs.Result.{result_ok}
-use Rattle.std.proofs.lemmas.Str.Parse.{digit_at, parse_plain, digits_value_short}
-use Rattle.std.proofs.lemmas.Fmt.{digits_decimal, decimal-digits_value, parse-decimal, length-decimal-le, decimal_nonempty, first_decimal}
-use Rattle.std.proofs.lemmas.Fmt.{decimal_digit, IsAscii-decimal}
-use Rattle.std.proofs.lemmas.Str.{IsUtf8-from_ascii}
-use Rattle.cadf_script.specs.Script.{IsScriptNumber}
-use Rattle.cadf_script.specs.Words.{is_plain_number}
+use Rattle.cadf_script.proofs.Common.{◌≡◌, ◌≢◌, ℕ, zero, suc, ◌<◌, ◌≤◌, List, [], ◌∷◌, true, false, length, get_or, Result, Ok, Some, None, sym, ap, ◌∙◌, subst, arith, true≢false, ◌^◌, decimal, IsUtf8, ParsesUnsigned, IsInRange, result_ok, digit_at, parse_plain, digits_value_short, digits_decimal, decimal-digits_value, parse-decimal, length-decimal-le, decimal_nonempty, first_decimal, decimal_digit, IsAscii-decimal, IsUtf8-from_ascii, IsScriptNumber, is_plain_number}
 use Rattle.cadf_script.proofs.Cuts.{own}
 
 pub record IsPlain (w : List ℕ) : Type 0 where

@@ -1,11 +1,5 @@
 -- A line and its turn.
-use Rattle.std.proofs.Common.{◌≡◌, ◌≢◌, ℕ, List, false, cond, length, refl, sym, ◌∙◌, subst, eqb}
-use Rattle.std.specs.Prelude.{decimal}
-use Rattle.cadf_rehearsal.specs.declared.turn.Turn.{Turn}
-use Rattle.cadf_rehearsal.specs.declared.turn.Turn.TheVariants.{Learn as Learns, Ask as Asks, Answer as Answers, Send as Sends, Deliver as Delivers}
-use Rattle.cadf_script.specs.declared.line.Command.TheVariants.{Learn, Ask, Answer, Send, Deliver}
-use Rattle.cadf_script.specs.Script.{Command, word_of, command_of, AreWords, IsSiteAndText, IsDocumentOf, IsTurn, IsNoTurn}
-use Rattle.cadf_script.specs.Words.{IsCut, has_blank, SpellsNoDocument}
+use Rattle.cadf_script.proofs.Common.{◌≡◌, ◌≢◌, ℕ, List, false, cond, length, refl, sym, ◌∙◌, subst, eqb, decimal, Turn, Learns, Asks, Answers, Sends, Delivers, Learn, Ask, Answer, Send, Deliver, Command, word_of, command_of, AreWords, IsSiteAndText, IsDocumentOf, IsTurn, IsNoTurn, IsCut, has_blank, SpellsNoDocument}
 use Rattle.cadf_script.proofs.Cuts.{cut_unique, decimal_unblank}
 
 word_unblank : (c : Command) → has_blank (word_of c) ≡ false

@@ -1,19 +1,5 @@
 -- What shown leaves say of a digest, by the number of those that are below it.
-use Rattle.std.proofs.lemmas.Grind.{common_steps}
-use Rattle.std.proofs.Common.{◌≡◌, ◌∙◌, ◌<◌, ◌≤◌, ◌-◌, ℕ, zero, suc, Bool, true, false, List, [], ◌∷◌, Some, None, length, take, drop, refl, ap, sym, subst, arith, true≢false}
-use Rattle.std.specs.Prelude.{◌||◌, nat_eq, nat_lt, slice_index_or, if◌then◌else◌}
-use Rattle.std.specs.List.{AllByRecursion, HoldsAt}
-use Rattle.std.specs.List.Sorted.{IsNonDecreasingBy, IsPartitionPoint}
-use Rattle.std.specs.Ordering.{is_lt, is_eq, ordering_index}
-use Rattle.std.specs.Cmp.{tied_itself}
-use Rattle.std.proofs.lemmas.Bool.{ltb-true, ltb-false}
-use Rattle.std.specs.declared.cmp.Ordering.{Ordering}
-use Rattle.std.specs.declared.cmp.Ordering.TheVariants.{Less, Equal, Greater}
-use Rattle.cadf_join.specs.Contents.{Text, text_cmp}
-use Rattle.cadf_join.specs.laws.Contents.{text_total, text_same}
-use Rattle.cadf_seal.specs.ProofFile.{AreRising}
-use Rattle.cadf_seal.specs.Verified.{PlacesRise, leaves_below, leaves_above, past_last, lowest_place, is_shown, state}
-use Rattle.cadf_seal.specs.declared.tree.Leaf.{Leaf}
+use Rattle.cadf_seal.proofs.Common.{common_steps, ◌≡◌, ◌∙◌, ◌<◌, ◌≤◌, ◌-◌, ℕ, zero, suc, Bool, true, false, List, [], ◌∷◌, Some, None, length, take, drop, refl, ap, sym, subst, arith, true≢false, ◌||◌, nat_eq, nat_lt, slice_index_or, if◌then◌else◌, AllByRecursion, HoldsAt, IsNonDecreasingBy, IsPartitionPoint, is_lt, is_eq, ordering_index, tied_itself, ltb-true, ltb-false, Ordering, Less, Equal, Greater, Text, text_cmp, text_total, text_same, AreRising, PlacesRise, leaves_below, leaves_above, past_last, lowest_place, is_shown, state, Leaf}
 use Rattle.cadf_seal.proofs.Rebuilding.{all_map}
 use Rattle.cadf_seal.proofs.Honest.{IsLess, is_less, less_trans, not_greater, is_greater, or_true}
 use Rattle.cadf_seal.proofs.Splitting.{first_part, second_part}

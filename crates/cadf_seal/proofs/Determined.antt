@@ -1,20 +1,6 @@
 -- Leaves with the same root are the same, if what is hashed for them doesn't collide.
-use Rattle.std.proofs.lemmas.Grind.{common_steps}
-use Rattle.std.proofs.Common.{◌≡◌, ◌∙◌, ◌<◌, ◌≤◌, ◌-◌, ◌^◌, ◌++◌, ℕ, zero, suc, Bool, true, false, List, [], ◌∷◌, length, take, drop, get_or, refl, ap, sym, subst, arith, length-drop, inl, inr}
-use Rattle.std.specs.Prelude.{nat_le, if◌then◌else◌}
-use Rattle.std.proofs.lemmas.Bool.{leb-false}
-use Rattle.std.proofs.lemmas.List.{length-take-le, take_at, append_cancel_left, take-append-drop}
-use Rattle.std.proofs.Math.Nat.{one-le-pow}
-use Rattle.sha2.specs.Sha256.{sha256}
-use Rattle.sha2.proofs.Facts256.{length-sha256}
-use Rattle.cadf_join.specs.Contents.{Text}
+use Rattle.cadf_seal.proofs.Common.{common_steps, ◌≡◌, ◌∙◌, ◌<◌, ◌≤◌, ◌-◌, ◌^◌, ◌++◌, ℕ, zero, suc, Bool, true, false, List, [], ◌∷◌, length, take, drop, get_or, refl, ap, sym, subst, arith, length-drop, inl, inr, nat_le, if◌then◌else◌, leb-false, length-take-le, take_at, append_cancel_left, take-append-drop, one-le-pow, sha256, length-sha256, Text, Listed, rising, listed_left, listed_right, InventoryModel, set_again, tree, hashed, TextsDoNotCollide, RootDetermines, seal_of}
 use Rattle.cadf_join.specs.Sets as set
-use Rattle.cadf_join.specs.Sets.{Listed, rising}
-use Rattle.cadf_join.proofs.Members.{listed_left, listed_right}
-use Rattle.cadf_set.specs.Inventory.{InventoryModel}
-use Rattle.cadf_inventory.proofs.RisingLists.{set_again}
-use Rattle.cadf_seal.specs.Tree.{tree, hashed, TextsDoNotCollide, RootDetermines}
-use Rattle.cadf_seal.specs.SealFile.{seal_of}
 use Rattle.cadf_seal.proofs.Trees.{tree_beyond, root_tree, below_power, doubled}
 
 -- ---- what is hashed

@@ -1,23 +1,6 @@
 -- Of facts that are told, each is in the sealed set or not, as was asked.
-use Rattle.std.proofs.lemmas.Grind.{common_steps}
-use Rattle.std.proofs.Common.{◌≡◌, ◌∙◌, ℕ, ◌+◌, Bool, true, false, not, List, [], ◌∷◌, map, Option, Some, None, Ok, sym, subst, inl, inr, true≢false, arith}
-use Rattle.std.specs.Prelude.{option_map}
-use Rattle.std.specs.Option.{option_or}
-use Rattle.std.specs.List.{position_from, AllByRecursion}
-use Rattle.std.proofs.lemmas.Bool.{eqb-true, false_from_ne_true}
-use Rattle.std.proofs.lemmas.Slice.Eq.{bytes_eq-Decides}
-use Rattle.cadf_join.specs.Contents.{Text, Texts, Contents, Has}
+use Rattle.cadf_seal.proofs.Common.{common_steps, ◌≡◌, ◌∙◌, ℕ, ◌+◌, Bool, true, false, not, List, [], ◌∷◌, map, Option, Some, None, Ok, sym, subst, inl, inr, true≢false, arith, option_map, option_or, position_from, AllByRecursion, eqb-true, false_from_ne_true, bytes_eq-Decides, Text, Texts, Contents, Has, Listed, rising, texts_total, texts_same, rising-listed, atom_digest, digests_of, known_digest, digest_of_some, InventoryModel, inventory_of, state, is_state, verify_fault_unless, is_root, text_unless, IsOf, FactsAreSo, VerifyFault}
 use Rattle.cadf_join.specs.Sets as set
-use Rattle.cadf_join.specs.Sets.{Listed, rising}
-use Rattle.cadf_join.specs.laws.Contents.{texts_total, texts_same}
-use Rattle.cadf_join.specs.laws.Rising.{rising-listed}
-use Rattle.cadf_line.specs.Digest.{atom_digest}
-use Rattle.cadf_line.specs.Missing.{digests_of}
-use Rattle.cadf_line.proofs.Missing.{known_digest, digest_of_some}
-use Rattle.cadf_set.specs.Inventory.{InventoryModel}
-use Rattle.cadf_sketch.specs.Answers.{inventory_of}
-use Rattle.cadf_seal.specs.Verified.{state, is_state, verify_fault_unless, is_root, text_unless, IsOf, FactsAreSo}
-use Rattle.cadf_seal.specs.declared.verify.VerifyFault.{VerifyFault}
 use Rattle.cadf_seal.proofs.Sound.{tells_truth}
 
 no_fault : (r : Option VerifyFault) (text t : List ℕ) → text_unless r text ≡ Ok t → r ≡ None

@@ -1,14 +1,6 @@
 -- The greatest subtrees without a shown leaf.
-use Rattle.std.proofs.lemmas.Grind.{common_steps}
-use Rattle.std.proofs.Common.{◌≡◌, ◌≢◌, ◌==◌, ◌∙◌, ◌+◌, ◌-◌, ◌<◌, ◌≤◌, ◌^◌, ℕ, zero, suc, false, true≢false, List, [], ◌∷◌, ◌++◌, length, take, drop, ap, sym, arith, append_assoc}
-use Rattle.std.specs.Prelude.{if◌then◌else◌}
-use Rattle.std.proofs.lemmas.Bool.{le-leb, lt-leb}
-use Rattle.std.proofs.lemmas.List.{take_all, length-take-le}
-use Rattle.cadf_join.specs.Contents.{Text}
-use Rattle.cadf_seal.specs.Shown.{until, leaves_from, hidden, all_hidden}
-use Rattle.cadf_seal.specs.Tree.{tree}
+use Rattle.cadf_seal.proofs.Common.{common_steps, ◌≡◌, ◌≢◌, ◌==◌, ◌∙◌, ◌+◌, ◌-◌, ◌<◌, ◌≤◌, ◌^◌, ℕ, zero, suc, false, true≢false, List, [], ◌∷◌, ◌++◌, length, take, drop, ap, sym, arith, append_assoc, if◌then◌else◌, le-leb, lt-leb, take_all, length-take-le, Text, until, leaves_from, hidden, all_hidden, tree, Leaf}
 use Rattle.cadf_seal.proofs.Trees.{tree_any, below_power, within_more, first_part, second_part}
-use Rattle.cadf_seal.specs.declared.tree.Leaf.{Leaf}
 
 -- ---- room
 

@@ -1,26 +1,6 @@
 -- The proof that is made for facts: its root is that of all leaves, it decides each fact, and facts need each shown leaf.
-use Rattle.std.proofs.lemmas.Grind.{common_steps}
-use Rattle.std.proofs.Common.{◌≡◌, ◌∙◌, ◌<◌, ◌≤◌, ◌+◌, ◌-◌, ℕ, zero, suc, max, min, Bool, true, false, cond, List, [], ◌∷◌, Option, Some, None, length, get_or, refl, ap, sym, subst, arith, inl, inr, true≢false, append-nil, rules}
-use Rattle.std.specs.Prelude.{◌⊎◌, ◌&&◌, ◌||◌, nat_eq, if◌then◌else◌}
-use Rattle.std.specs.List.{filter, AllByRecursion}
-use Rattle.std.specs.List.Sorted.{IsStrictlySortedBy}
-use Rattle.std.specs.Ordering.{is_lt, is_eq, ordering_reverse}
-use Rattle.std.specs.declared.cmp.Ordering.{Ordering}
-use Rattle.std.specs.declared.cmp.Ordering.TheVariants.{Less, Equal}
-use Rattle.std.specs.Cmp.{tied_itself}
-use Rattle.std.proofs.lemmas.Bool.{eq-eqb, ne_eqb, false_from_ne_true}
-use Rattle.sha2.specs.Sha256.{sha256}
-use Rattle.cadf_join.specs.Contents.{Text, text_cmp}
+use Rattle.cadf_seal.proofs.Common.{common_steps, ◌≡◌, ◌∙◌, ◌<◌, ◌≤◌, ◌+◌, ◌-◌, ℕ, zero, suc, max, min, Bool, true, false, cond, List, [], ◌∷◌, Option, Some, None, length, get_or, refl, ap, sym, subst, arith, inl, inr, true≢false, append-nil, rules, ◌⊎◌, ◌&&◌, ◌||◌, nat_eq, if◌then◌else◌, filter, AllByRecursion, IsStrictlySortedBy, is_lt, is_eq, ordering_reverse, Ordering, Less, Equal, tied_itself, eq-eqb, ne_eqb, false_from_ne_true, sha256, Text, text_cmp, Listed, rising, text_total, text_same, and_both, or_cases, rising_is_sorted, listed-rising, rising-listed, InventoryModel, root, first_leaf, is_above, is_below, needs, shown, hidden, all_hidden, rebuilt, alone, root_from, proof_root, leaves_below, leaves_above, past_last, lowest_place, is_shown, state, first_digest, unneeded, IsAt, TellsAll, Leaf}
 use Rattle.cadf_join.specs.Sets as set
-use Rattle.cadf_join.specs.Sets.{Listed, rising}
-use Rattle.cadf_join.specs.laws.Contents.{text_total, text_same}
-use Rattle.cadf_join.proofs.Members.{and_both, or_cases}
-use Rattle.cadf_join.specs.laws.Rising.{rising_is_sorted, listed-rising, rising-listed}
-use Rattle.cadf_set.specs.Inventory.{InventoryModel}
-use Rattle.cadf_seal.specs.Tree.{root}
-use Rattle.cadf_seal.specs.Shown.{first_leaf, is_above, is_below, needs, shown, hidden, all_hidden, rebuilt}
-use Rattle.cadf_seal.specs.Verified.{alone, root_from, proof_root, leaves_below, leaves_above, past_last, lowest_place, is_shown, state, first_digest, unneeded, IsAt, TellsAll}
-use Rattle.cadf_seal.specs.declared.tree.Leaf.{Leaf}
 use Rattle.cadf_seal.proofs.Trees.{root_none, root_tree, below_power}
 use Rattle.cadf_seal.proofs.Rebuilding.{all_map, all_kept, rebuilds}
 

@@ -1,3 +1,4 @@
+pub mod Common
 pub mod Deciding
 pub mod Determined
 pub mod Facts

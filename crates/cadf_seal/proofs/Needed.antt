@@ -1,18 +1,5 @@
 -- Which shown leaves facts need, by the least fact above the leaf before; and the first of some facts with a state.
-use Rattle.std.proofs.lemmas.Grind.{common_steps}
-use Rattle.std.proofs.Common.{◌≡◌, ◌∙◌, ◌<◌, ◌+◌, ℕ, Bool, true, false, cond, List, [], ◌∷◌, Option, Some, None, length, drop, get_or, refl, ap, sym, arith, true≢false}
-use Rattle.std.specs.Prelude.{◌&&◌, ◌||◌, if◌then◌else◌}
-use Rattle.std.specs.List.{find, AllByRecursion}
-use Rattle.std.proofs.lemmas.List.{drop_more}
-use Rattle.std.proofs.lemmas.Bool.{false_from_ne_true}
-use Rattle.cadf_join.specs.Contents.{Text, text_cmp, is_after, next_after}
-use Rattle.cadf_join.specs.Sets.{rising}
-use Rattle.cadf_join.specs.laws.Contents.{text_total, text_same}
-use Rattle.cadf_join.specs.laws.Rising.{rising_is_sorted}
-use Rattle.cadf_line.specs.Missing.{Digests}
-use Rattle.cadf_seal.specs.Shown.{is_above, is_below, needs}
-use Rattle.cadf_seal.specs.Verified.{first_digest, unneeded}
-use Rattle.cadf_seal.specs.declared.tree.Leaf.{Leaf}
+use Rattle.cadf_seal.proofs.Common.{common_steps, ◌≡◌, ◌∙◌, ◌<◌, ◌+◌, ℕ, Bool, true, false, cond, List, [], ◌∷◌, Option, Some, None, length, drop, get_or, refl, ap, sym, arith, true≢false, ◌&&◌, ◌||◌, if◌then◌else◌, find, AllByRecursion, drop_more, false_from_ne_true, Text, text_cmp, is_after, next_after, rising, text_total, text_same, rising_is_sorted, Digests, is_above, is_below, needs, first_digest, unneeded, Leaf}
 use Rattle.cadf_seal.proofs.Honest.{IsLess, AreSorted, less_trans, sorted_above, sorted_rest}
 
 below_less : (behind : Option Text) (d e : Text) → IsLess d e → is_below behind e ≡ true → is_below behind d ≡ true

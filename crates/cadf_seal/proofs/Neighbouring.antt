@@ -1,23 +1,6 @@
 -- A fact that is a leaf needs that leaf alone, and one that is none the leaves next to it; facts need what each of them needs.
-use Rattle.std.proofs.lemmas.Grind.{common_steps}
-use Rattle.std.proofs.Common.{◌≡◌, ◌∙◌, ◌+◌, ℕ, suc, Bool, true, false, true≢false, List, [], ◌∷◌, ◌++◌, length, Option, None, Some, refl, ap, sym, subst, arith, inl, inr}
-use Rattle.std.specs.Prelude.{◌&&◌, ◌||◌, ◌⊎◌, if◌then◌else◌}
-use Rattle.std.specs.List.{AllByRecursion}
-use Rattle.std.specs.List.Sorted.{IsStrictlySortedBy}
-use Rattle.std.specs.Ordering.{is_lt, ordering_reverse}
-use Rattle.std.specs.Cmp.{tied_itself}
-use Rattle.std.proofs.lemmas.Bool.{false_from_ne_true}
-use Rattle.std.specs.declared.cmp.Ordering.{Ordering}
-use Rattle.std.specs.declared.cmp.Ordering.TheVariants.{Less, Equal, Greater}
-use Rattle.cadf_join.specs.Contents.{Text, text_cmp}
-use Rattle.cadf_join.specs.Sets.{Listed}
-use Rattle.cadf_join.specs.laws.Contents.{text_total, text_same}
-use Rattle.cadf_join.proofs.Members.{or_cases, or_right}
-use Rattle.cadf_seal.specs.Facts.{AreAscending}
-use Rattle.cadf_seal.specs.Neighbours.{first_from, last_from, HasPlace, FactHasPlace, FactNeeds, FactsNeed}
-use Rattle.cadf_seal.specs.Shown.{first_leaf, is_above, is_below, needs, shown}
+use Rattle.cadf_seal.proofs.Common.{common_steps, ◌≡◌, ◌∙◌, ◌+◌, ℕ, suc, Bool, true, false, true≢false, List, [], ◌∷◌, ◌++◌, length, Option, None, Some, refl, ap, sym, subst, arith, inl, inr, ◌&&◌, ◌||◌, ◌⊎◌, if◌then◌else◌, AllByRecursion, IsStrictlySortedBy, is_lt, ordering_reverse, tied_itself, false_from_ne_true, Ordering, Less, Equal, Greater, Text, text_cmp, Listed, text_total, text_same, or_cases, or_right, AreAscending, first_from, last_from, HasPlace, FactHasPlace, FactNeeds, FactsNeed, first_leaf, is_above, is_below, needs, shown, Leaf}
 use Rattle.cadf_seal.proofs.ShownLemmas.{below_both}
-use Rattle.cadf_seal.specs.declared.tree.Leaf.{Leaf}
 
 -- ---- one fact
 

@@ -1,39 +1,6 @@
 -- Each line of a proof's file decodes to what it encodes, and to nothing else; and the lines of a proof are a kind of file.
-use Rattle.std.proofs.lemmas.Grind.{common_steps}
-use Rattle.std.proofs.Common.{◌≡◌, ◌⊎◌, inl, inr, ℕ, ◌-◌, ◌<◌, ◌^◌, List, [], ◌∷◌, ◌++◌, length, map, drop, Bool, true, cond, Option, Some}
-use Rattle.std.proofs.Common.{None, refl, sym, ap, ◌∙◌, subst, arith, append_assoc, append-nil, true≢false, rules}
-use Rattle.std.specs.Prelude.{◌&&◌, nat_eq, nat_lt, is_some, unwrap_or, codes, decimal, slice_get}
-use Rattle.std.specs.List.{starts_with, filter_map, last_or, AllByRecursion}
-use Rattle.std.specs.Ordering.{is_lt}
-use Rattle.std.proofs.lemmas.Bool.{lt-ltb, ltb-true}
-use Rattle.hex.specs.Hex.{encode_lower}
-use Rattle.cadf_join.specs.Contents.{Text, text_cmp}
-use Rattle.cadf_event.specs.Known.{IsNameText}
-use Rattle.cadf_event.specs.LogName.{is_name_text, is_unbroken}
-use Rattle.cadf_event.proofs.KnownParts.{all_append}
-use Rattle.cadf_event.proofs.LogNameLemmas.{unbroken_quoted, both_unbroken}
-use Rattle.cadf_line.specs.Digest.{IsDigest}
-use Rattle.cadf_linefile.specs.declared.fault.Cause.TheVariants.{Shape, Order}
-use Rattle.cadf_linefile.specs.Verdict.{log_line, with_digest_line}
-use Rattle.cadf_linefile.proofs.BodyLines.{AreAfter, map_more}
-use Rattle.cadf_linefile.proofs.LinesLemmas.{are_unbroken, both, and_true}
-use Rattle.cadf_linefile.proofs.UnbrokenLines.{unbroken_digest}
-use Rattle.cadf_linefile.proofs.VerdictLemmas.{good_log}
-use Rattle.cadf_inventory.specs.InventoryVerdict.{digest_of}
-use Rattle.cadf_inventory.proofs.DigestLines.{digest-again, digest-only, unbroken_digest_of}
-use Rattle.cadf_sketch.specs.SketchVerdict.{number_in, first_word, words_after, shape_unless}
-use Rattle.cadf_sketch.proofs.NumberLemmas.{number-again, number-only, decimal_unblank, first_is, after_is, cut_cases}
-use Rattle.cadf_sketch.proofs.LineLemmas.{chosen, begins_with, no_digest}
-use Rattle.cadf_sketch.proofs.SketchFileLemmas.{decimal_unbroken, there, shape_none}
-use Rattle.cadf_seal.specs.SealFile.{count_line}
-use Rattle.cadf_seal.specs.SealVerdict.{sealed_count}
-use Rattle.cadf_seal.specs.ProofFile.{ProofModel, proof_header, shown_line, hidden_line, proof_lines, proof_body, AreRising, IsLeafOf, HasProofParts, IsProof, ProofFileIsInjective}
-use Rattle.cadf_seal.specs.ProofVerdict.{leaf_of, leaf_in_words, shown_in, hidden_in, is_next, cause_of_line, cause_after, proof_model_in, proof_kind}
-use Rattle.cadf_seal.specs.ProofLines.{proof_values, with_shown, with_hidden, IsPut}
-use Rattle.cadf_seal.specs.declared.tree.Leaf.{Leaf}
+use Rattle.cadf_seal.proofs.Common.{common_steps, ◌≡◌, ◌⊎◌, inl, inr, ℕ, ◌-◌, ◌<◌, ◌^◌, List, [], ◌∷◌, ◌++◌, length, map, drop, Bool, true, cond, Option, Some, None, refl, sym, ap, ◌∙◌, subst, arith, append_assoc, append-nil, true≢false, rules, ◌&&◌, nat_eq, nat_lt, is_some, unwrap_or, codes, decimal, slice_get, starts_with, filter_map, last_or, AllByRecursion, is_lt, lt-ltb, ltb-true, encode_lower, Text, text_cmp, IsNameText, is_name_text, is_unbroken, all_append, unbroken_quoted, both_unbroken, IsDigest, Shape, Order, log_line, with_digest_line, AreAfter, map_more, are_unbroken, both, and_true, unbroken_digest, good_log, digest_of, digest-again, digest-only, unbroken_digest_of, number_in, first_word, words_after, shape_unless, number-again, number-only, decimal_unblank, first_is, after_is, cut_cases, chosen, begins_with, no_digest, decimal_unbroken, there, shape_none, count_line, sealed_count, ProofModel, proof_header, shown_line, hidden_line, proof_lines, proof_body, AreRising, IsLeafOf, HasProofParts, IsProof, ProofFileIsInjective, leaf_of, leaf_in_words, shown_in, hidden_in, is_next, cause_of_line, cause_after, proof_model_in, proof_kind, proof_values, with_shown, with_hidden, IsPut, Leaf, AcceptsModels, Plain, lines_of, Follows, Ends, IsModelKind, accepts-models, models-tell, name_is}
 use Rattle.cadf_seal.proofs.SealLemmas.{count-again, count-only}
-use Rattle.cadf_linefile.specs.ModelKind.{AcceptsModels}
-use Rattle.cadf_linefile.proofs.ModelLemmas.{Plain, lines_of, Follows, Ends, IsModelKind, accepts-models, models-tell, name_is}
 
 -- ---- one line
 

@@ -1,22 +1,5 @@
 -- The proof of facts meets the invariant of a proof.
-use Rattle.std.proofs.lemmas.Grind.{common_steps}
-use Rattle.std.proofs.Common.{◌+◌, ◌<◌, ◌≤◌, ◌^◌, ℕ, zero, suc, Bool, true, false, List, [], ◌∷◌, ◌++◌, length, take, drop, Option, Some, ap, arith}
-use Rattle.std.specs.Prelude.{if◌then◌else◌}
-use Rattle.std.specs.List.{AllByRecursion}
-use Rattle.std.specs.List.Sorted.{IsStrictlySortedBy}
-use Rattle.std.specs.Ordering.{is_lt}
-use Rattle.cadf_join.specs.Contents.{Text}
-use Rattle.cadf_join.specs.Sets.{rising}
-use Rattle.cadf_line.specs.Digest.{IsDigest}
-use Rattle.cadf_set.specs.Inventory.{InventoryModel, AreDigests}
-use Rattle.cadf_inventory.proofs.RisingLists.{rising_set}
-use Rattle.cadf_inventory.proofs.InventoryVerdictLemmas.{each_digest}
-use Rattle.cadf_sketch.proofs.WholeLemmas.{sha_digest}
-use Rattle.cadf_seal.specs.Facts.{AreAscending}
-use Rattle.cadf_seal.specs.ProofFile.{IsLeafOf, AreRising, HasProofParts, proof_of}
-use Rattle.cadf_seal.specs.Shown.{first_leaf, needs, shown, until, leaves_from, hidden, all_hidden}
-use Rattle.cadf_seal.specs.Tree.{tree}
-use Rattle.cadf_seal.specs.declared.tree.Leaf.{Leaf}
+use Rattle.cadf_seal.proofs.Common.{common_steps, ◌+◌, ◌<◌, ◌≤◌, ◌^◌, ℕ, zero, suc, Bool, true, false, List, [], ◌∷◌, ◌++◌, length, take, drop, Option, Some, ap, arith, if◌then◌else◌, AllByRecursion, IsStrictlySortedBy, is_lt, Text, rising, IsDigest, InventoryModel, AreDigests, rising_set, each_digest, sha_digest, AreAscending, IsLeafOf, AreRising, HasProofParts, proof_of, first_leaf, needs, shown, until, leaves_from, hidden, all_hidden, tree, Leaf}
 
 -- ---- the leaves that are shown
 

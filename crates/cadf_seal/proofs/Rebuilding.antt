@@ -1,19 +1,5 @@
 -- The tree that is rebuilt from shown leaves and the hashes of hidden subtrees, and the tree over all leaves.
-use Rattle.std.proofs.lemmas.Grind.{common_steps}
-use Rattle.std.proofs.Common.{◌≡◌, ◌∙◌, ◌<◌, ◌≤◌, ◌+◌, ◌-◌, ◌^◌, ◌++◌, ℕ, zero, suc, Bool, true, false, cond, List, [], ◌∷◌, Some, length, take, drop}
-use Rattle.std.proofs.Common.{get_or, refl, ap, sym, subst, arith, length-drop, append_assoc, inl, inr, true≢false}
-use Rattle.std.specs.Prelude.{nat_le, nat_lt, if◌then◌else◌}
-use Rattle.std.specs.List.{filter, AllByRecursion}
-use Rattle.std.proofs.lemmas.Bool.{leb-true, leb-false, le-leb, ltb-true, ltb-false}
-use Rattle.std.proofs.lemmas.List.{length-take-le, get_or-take, get_or-drop}
-use Rattle.sha2.proofs.Facts256.{length-sha256}
-use Rattle.cadf_join.specs.Contents.{Text}
-use Rattle.cadf_join.specs.Sets.{Listed}
-use Rattle.cadf_join.proofs.Members.{listed_left, listed_right}
-use Rattle.cadf_seal.specs.Tree.{leaf_hash, node_hash, tree, hashed, TextsDoNotCollide}
-use Rattle.cadf_seal.specs.Shown.{until, leaves_from, hidden, Rebuilt, next_hash, node_beside, node_of, rebuilt, hash_of, rest_of_rebuilt, rehashed}
-use Rattle.cadf_seal.specs.Verified.{IsAt, PlacesRise}
-use Rattle.cadf_seal.specs.declared.tree.Leaf.{Leaf}
+use Rattle.cadf_seal.proofs.Common.{common_steps, ◌≡◌, ◌∙◌, ◌<◌, ◌≤◌, ◌+◌, ◌-◌, ◌^◌, ◌++◌, ℕ, zero, suc, Bool, true, false, cond, List, [], ◌∷◌, Some, length, take, drop, get_or, refl, ap, sym, subst, arith, length-drop, append_assoc, inl, inr, true≢false, nat_le, nat_lt, if◌then◌else◌, filter, AllByRecursion, leb-true, leb-false, le-leb, ltb-true, ltb-false, length-take-le, get_or-take, get_or-drop, length-sha256, Text, Listed, listed_left, listed_right, leaf_hash, node_hash, tree, hashed, TextsDoNotCollide, until, leaves_from, hidden, Rebuilt, next_hash, node_beside, node_of, rebuilt, hash_of, rest_of_rebuilt, rehashed, IsAt, PlacesRise, Leaf}
 use Rattle.cadf_seal.proofs.Trees.{tree_beyond, doubled}
 use Rattle.cadf_seal.proofs.Determined.{node_text, of_halves, hashed_at, long, halves_of}
 

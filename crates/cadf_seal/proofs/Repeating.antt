@@ -1,13 +1,5 @@
 -- Lines that stand one after another, each as often as it is counted, and the writing of them.
-use Rattle.std.proofs.Common.{◌≡◌, ℕ, zero, suc, ◌<◌, ◌+◌, ◌-◌, List, [], ◌∷◌, ◌++◌, Option, sym, subst, ap, ◌∙◌, arith, append_assoc, append-nil}
-use Rattle.std.specs.List.{repeat}
-use Rattle.std.proofs.lemmas.Grind.{common_steps}
-use Rattle.std.specs.Io.KnownBytes.{Appends}
-use Rattle.std.proofs.KnownBytes.{Appends-trans}
-use Rattle.cadf_json.specs.Streams.{AppendsPrefix}
-use Rattle.cadf_linefile.specs.laws.Prefixes.{front_more, front_after}
-use Rattle.cadf_seal.specs.declared.telling.Repeated.{Repeated}
-use Rattle.cadf_seal.specs.Verified.{repeated_text}
+use Rattle.cadf_seal.proofs.Common.{◌≡◌, ℕ, zero, suc, ◌<◌, ◌+◌, ◌-◌, List, [], ◌∷◌, ◌++◌, Option, sym, subst, ap, ◌∙◌, arith, append_assoc, append-nil, repeat, common_steps, Appends, Appends-trans, AppendsPrefix, front_more, front_after, Repeated, repeated_text}
 
 -- ---- a line that is added
 

@@ -1,27 +1,6 @@
 -- The lines of a seal's file: what each decodes to, and that they are a kind of file.
-use Rattle.std.proofs.lemmas.Grind.{common_steps}
-use Rattle.std.proofs.Common.{◌≡◌, ℕ, ◌<◌, ◌^◌, List, [], ◌∷◌, drop, true, Some, None, refl, sym, ap, ◌∙◌, true≢false, arith}
-use Rattle.std.specs.Prelude.{nat_eq, is_some, codes}
-use Rattle.std.specs.List.{starts_with}
-use Rattle.cadf_join.specs.Contents.{Text}
-use Rattle.cadf_event.specs.Known.{IsNameText}
-use Rattle.cadf_event.specs.LogName.{is_name_text}
-use Rattle.cadf_event.proofs.LogNameLemmas.{unbroken_quoted}
-use Rattle.cadf_line.specs.Digest.{IsDigest}
-use Rattle.cadf_linefile.specs.Verdict.{log_line, with_digest_line}
-use Rattle.cadf_linefile.proofs.BodyLines.{AreAfter}
-use Rattle.cadf_linefile.proofs.LinesLemmas.{are_unbroken, and_true}
-use Rattle.cadf_linefile.proofs.VerdictLemmas.{good_log}
-use Rattle.cadf_linefile.proofs.UnbrokenLines.{unbroken_digest}
-use Rattle.cadf_inventory.proofs.DigestLines.{digest-again, digest-only, unbroken_digest_of}
-use Rattle.cadf_sketch.specs.SketchVerdict.{number_in, shape_unless}
-use Rattle.cadf_sketch.proofs.NumberLemmas.{number-again, number-only}
-use Rattle.cadf_sketch.proofs.LineLemmas.{chosen, begins_with}
-use Rattle.cadf_sketch.proofs.SketchFileLemmas.{decimal_unbroken, there, shape_none}
-use Rattle.cadf_seal.specs.SealFile.{SealModel, seal_header, count_line, root_line, seal_body, HasParts, IsSeal, SealFileIsInjective}
-use Rattle.cadf_seal.specs.SealVerdict.{sealed_count, root_in, cause_after, seal_kind, seal_model_in}
-use Rattle.cadf_linefile.specs.ModelKind.{AcceptsModels}
-use Rattle.cadf_linefile.proofs.ModelLemmas.{Plain, lines_of, Follows, Ends, IsModelKind, accepts-models, models-tell, name_is}
+use Rattle.cadf_seal.proofs.Common.{common_steps, ◌≡◌, ℕ, ◌<◌, ◌^◌, List, [], ◌∷◌, drop, true, Some, None, refl, sym, ap, ◌∙◌, true≢false, arith, nat_eq, is_some, codes, starts_with, Text, IsNameText, is_name_text, unbroken_quoted, IsDigest, log_line, with_digest_line, AreAfter, are_unbroken, and_true, good_log, unbroken_digest, digest-again, digest-only, unbroken_digest_of, number_in, shape_unless, number-again, number-only, chosen, begins_with, decimal_unbroken, there, shape_none, SealModel, seal_header, count_line, root_line, seal_body, HasParts, IsSeal, SealFileIsInjective, sealed_count, root_in, seal_kind, seal_model_in, AcceptsModels, Plain, lines_of, Follows, Ends, IsModelKind, accepts-models, models-tell, name_is}
+use Rattle.cadf_seal.specs.SealVerdict.{cause_after}
 
 -- ---- one line
 

@@ -1,20 +1,5 @@
 -- The leaves that facts need, found by a walk over both in order.
-use Rattle.std.proofs.lemmas.Grind.{common_steps}
-use Rattle.std.proofs.Common.{◌≡◌, ◌∙◌, ◌+◌, ℕ, suc, Bool, true, false, List, [], ◌∷◌, ◌++◌, drop, Option, None, Some, Bor, refl, ap, sym, subst, arith, append_assoc, true≢false}
-use Rattle.std.specs.Prelude.{◌&&◌, ◌||◌, if◌then◌else◌, cond, MatchOption}
-use Rattle.std.specs.List.{AllByRecursion}
-use Rattle.std.specs.List.Sorted.{IsStrictlySortedBy}
-use Rattle.std.specs.Option.{option_copied}
-use Rattle.std.specs.Ordering.{is_lt}
-use Rattle.std.specs.declared.cmp.Ordering.TheVariants.{Less}
-use Rattle.cadf_join.specs.Contents.{Text, text_cmp}
-use Rattle.cadf_join.specs.laws.Contents.{text_total}
-use Rattle.cadf_join.specs.laws.Sets.{bool_cases}
-use Rattle.std.proofs.lemmas.Bool.{false_from_ne_true}
-use Rattle.cadf_seal.specs.Facts.{facts_left, AreAscending, facts_above}
-use Rattle.cadf_seal.specs.Shown.{first_leaf, is_below, needs, shown}
-use Rattle.cadf_seal.specs.declared.tree.Leaf.{Leaf}
-use Rattle.cadf_seal.specs.declared.proof.Facts.{Facts}
+use Rattle.cadf_seal.proofs.Common.{common_steps, ◌≡◌, ◌∙◌, ◌+◌, ℕ, suc, Bool, true, false, List, [], ◌∷◌, ◌++◌, drop, Option, None, Some, Bor, refl, ap, sym, subst, arith, append_assoc, true≢false, ◌&&◌, ◌||◌, if◌then◌else◌, cond, MatchOption, AllByRecursion, IsStrictlySortedBy, option_copied, is_lt, Less, Text, text_cmp, text_total, bool_cases, false_from_ne_true, facts_left, AreAscending, facts_above, first_leaf, is_below, needs, shown, Leaf, Facts}
 
 -- ---- one fact
 

@@ -1,18 +1,5 @@
 -- The shown leaves before a place and the others, as the parts of a list; and the hash of a tree, one step at a time.
-use Rattle.std.proofs.lemmas.Grind.{common_steps}
-use Rattle.std.proofs.Common.{◌≡◌, ◌∙◌, ◌<◌, ◌≤◌, ◌+◌, ◌-◌, ◌^◌, ℕ, zero, suc, Bool, true, false, cond, List, [], ◌∷◌, ◌≢◌, length, take, drop, refl, ap, sym, arith, length-drop}
-use Rattle.std.specs.Prelude.{nat_le, nat_lt, ◌==◌, slice_index_or, if◌then◌else◌}
-use Rattle.std.specs.Bool.{then_some}
-use Rattle.std.specs.List.{filter, AllByRecursion}
-use Rattle.std.specs.List.Sorted.{IsPartitionPoint, IsPartitionedBy}
-use Rattle.std.proofs.lemmas.Bool.{le-leb, lt-leb, lt-ltb, ltb-true, ltb-false, eq-eqb, ne_eqb}
-use Rattle.std.proofs.lemmas.List.{take_all}
-use Rattle.sha2.specs.Sha256.{sha256}
-use Rattle.cadf_join.specs.Contents.{Text}
-use Rattle.cadf_seal.specs.Shown.{until, leaves_from, rebuilt}
-use Rattle.cadf_seal.specs.ProofFile.{ProofModel}
-use Rattle.cadf_seal.specs.Verified.{PlacesRise, alone, root_from, proof_root}
-use Rattle.cadf_seal.specs.declared.tree.Leaf.{Leaf}
+use Rattle.cadf_seal.proofs.Common.{common_steps, ◌≡◌, ◌∙◌, ◌<◌, ◌≤◌, ◌+◌, ◌-◌, ◌^◌, ℕ, zero, suc, Bool, true, false, cond, List, [], ◌∷◌, ◌≢◌, length, take, drop, refl, ap, sym, arith, length-drop, nat_le, nat_lt, ◌==◌, slice_index_or, if◌then◌else◌, then_some, filter, AllByRecursion, IsPartitionPoint, IsPartitionedBy, le-leb, lt-leb, lt-ltb, ltb-true, ltb-false, eq-eqb, ne_eqb, take_all, sha256, Text, until, leaves_from, rebuilt, ProofModel, PlacesRise, alone, root_from, proof_root, Leaf}
 use Rattle.cadf_seal.proofs.Rebuilding.{rise_kept}
 use Rattle.cadf_seal.proofs.Trees.{below_power, within_more}
 

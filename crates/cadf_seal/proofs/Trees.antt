@@ -1,14 +1,5 @@
 -- Trees that have more room than they need, and trees of a part of a list.
-use Rattle.std.proofs.lemmas.Grind.{common_steps}
-use Rattle.std.proofs.Common.{◌≡◌, ◌≢◌, ◌∙◌, ◌<◌, ◌≤◌, ◌+◌, ◌*◌, ◌-◌, ◌%◌, ◌^◌, ℕ, zero, suc, List, [], ◌∷◌, length, take, drop, refl, ap, sym, arith, length-drop}
-use Rattle.std.specs.Prelude.{if◌then◌else◌}
-use Rattle.std.proofs.lemmas.Bool.{le-leb, lt-leb}
-use Rattle.std.proofs.lemmas.List.{length-take-le, drop-take, take_at, take_all}
-use Rattle.std.proofs.Math.Seq.{take-add}
-use Rattle.std.proofs.Math.Nat.{pow-le-pow_right, one-le-pow}
-use Rattle.sha2.specs.Sha256.{sha256}
-use Rattle.cadf_join.specs.Contents.{Text}
-use Rattle.cadf_seal.specs.Tree.{leaf_hash, node_hash, tree, root, IsSplitAt, IsMerkleTree}
+use Rattle.cadf_seal.proofs.Common.{common_steps, ◌≡◌, ◌≢◌, ◌∙◌, ◌<◌, ◌≤◌, ◌+◌, ◌*◌, ◌-◌, ◌%◌, ◌^◌, ℕ, zero, suc, List, [], ◌∷◌, length, take, drop, refl, ap, sym, arith, length-drop, if◌then◌else◌, le-leb, lt-leb, length-take-le, drop-take, take_at, take_all, take-add, pow-le-pow_right, one-le-pow, sha256, Text, leaf_hash, node_hash, tree, root, IsSplitAt, IsMerkleTree}
 
 -- ---- room
 

@@ -1,13 +1,5 @@
 -- The sketch that is asked for is a sketch.
-use Rattle.std.proofs.lemmas.Grind.{common_steps}
-use Rattle.std.proofs.Common.{◌≡◌, ◌<◌, ◌+◌, ◌*◌, ◌/◌, ◌%◌, ◌^◌, ℕ, true, arith, rules, slice_range, Option, None, Some, IfSome}
-use Rattle.cadf_line.specs.Digest.{IsDigest}
-use Rattle.cadf_set.specs.Inventory.{InventoryModel}
-use Rattle.cadf_inventory.specs.InventoryFile.{IsInventory, inventory_digest, inventory_text}
-use Rattle.cadf_sketch.specs.Cells.{word}
-use Rattle.cadf_sketch.specs.Layouts.{IsLayout, are_cells, is_salt, layout_with}
-use Rattle.cadf_sketch.specs.SketchFile.{IsSketch}
-use Rattle.cadf_sketch.specs.Sketches.{sketch_of, asked}
+use Rattle.cadf_sketch.proofs.Common.{common_steps, ◌≡◌, ◌<◌, ◌+◌, ◌*◌, ◌/◌, ◌%◌, ◌^◌, ℕ, true, arith, rules, slice_range, Option, None, Some, IfSome, IsDigest, InventoryModel, IsInventory, inventory_digest, inventory_text, word, IsLayout, are_cells, is_salt, layout_with, IsSketch, sketch_of, asked}
 use Rattle.cadf_sketch.proofs.LineLemmas.{from_fits, take_fits}
 use Rattle.cadf_sketch.proofs.WholeLemmas.{sha_digest, sketch_parts}
 

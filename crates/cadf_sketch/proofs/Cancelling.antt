@@ -1,22 +1,5 @@
 -- XORing digests into cells: equal digests cancel, and the order doesn't matter.
-use Rattle.std.proofs.lemmas.Grind.{common_steps}
-use Rattle.std.proofs.Common.{◌≡◌, ◌∙◌, ◌<◌, ℕ, suc, Bool, cond, List, [], ◌∷◌, length, replicate, refl, ap, sym, subst, arith, inl, inr}
-use Rattle.std.specs.Prelude.{bit_xor}
-use Rattle.std.specs.List.{AllByRecursion}
-use Rattle.std.specs.declared.cmp.Ordering.{Ordering}
-use Rattle.std.specs.declared.cmp.Ordering.TheVariants.{Less, Equal, Greater}
-use Rattle.std.specs.Ordering.{match_ordering}
-use Rattle.std.specs.BTreeSet.{insert_key}
-use Rattle.std.proofs.lemmas.List.{ext_get_or}
-use Rattle.std.proofs.lemmas.Nat.{xor_comm}
-use lib.Bits.{xor_assoc, xor_self, xor_zero_r}
-use Rattle.cadf_join.specs.Sets.{Listed}
-use Rattle.cadf_join.specs.laws.Contents.{text_same}
-use Rattle.cadf_join.specs.Contents.{Text, text_cmp}
-use Rattle.cadf_line.specs.Digest.{IsDigest}
-use Rattle.cadf_sketch.specs.Layouts.{LayoutModel}
-use Rattle.cadf_sketch.specs.Cells.{check, each_xor, mixed, cell_at, stands, toggled, toggled_all, nothing}
-use Rattle.cadf_sketch.specs.declared.cell.Cell.{Cell}
+use Rattle.cadf_sketch.proofs.Common.{common_steps, ◌≡◌, ◌∙◌, ◌<◌, ℕ, suc, Bool, cond, List, [], ◌∷◌, length, replicate, refl, ap, sym, subst, arith, inl, inr, bit_xor, AllByRecursion, Ordering, Less, Equal, Greater, match_ordering, insert_key, ext_get_or, xor_comm, xor_assoc, xor_self, xor_zero_r, Listed, text_same, Text, text_cmp, IsDigest, LayoutModel, check, each_xor, mixed, cell_at, stands, toggled, toggled_all, nothing, Cell}
 use Rattle.cadf_sketch.proofs.CellLemmas.{length-toggled, at_turned}
 
 -- ---- bytes

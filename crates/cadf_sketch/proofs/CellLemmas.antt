@@ -1,12 +1,5 @@
 -- The cells after digests were XORed into them.
-use Rattle.std.proofs.lemmas.Grind.{common_steps}
-use Rattle.std.proofs.Common.{◌≡◌, ◌∙◌, ◌<◌, ◌≤◌, ◌+◌, ◌*◌, ℕ, Bool, true, cond, List, [], ◌∷◌, length, replicate, refl, sym, subst, arith}
-use Rattle.std.specs.Prelude.{◌||◌, nat_eq}
-use Rattle.std.specs.List.{filter}
-use Rattle.std.proofs.lemmas.List.{length-set, get_or-replicate, length-replicate}
-use Rattle.cadf_sketch.specs.Layouts.{LayoutModel}
-use Rattle.cadf_sketch.specs.Cells.{toggled, toggled_all, mixed_at, mixed, mixed_all, cell_at, place_in, stands, nothing}
-use Rattle.cadf_sketch.specs.declared.cell.Cell.{Cell}
+use Rattle.cadf_sketch.proofs.Common.{common_steps, ◌≡◌, ◌∙◌, ◌<◌, ◌≤◌, ◌+◌, ◌*◌, ℕ, Bool, true, cond, List, [], ◌∷◌, length, replicate, refl, sym, subst, arith, ◌||◌, nat_eq, filter, length-set, get_or-replicate, length-replicate, LayoutModel, toggled, toggled_all, mixed_at, mixed, mixed_all, cell_at, place_in, stands, nothing, Cell}
 
 length-mixed_at : (cells : List Cell) (place : ℕ) (d : List ℕ) → length (mixed_at cells place d) ≡ length cells
 length-mixed_at cells place d = length-set cells place (mixed (cell_at cells place) d)

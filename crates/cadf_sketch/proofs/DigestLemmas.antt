@@ -1,13 +1,5 @@
 -- The lines before the digest line determine an inventory's file.
-use Rattle.std.proofs.lemmas.Grind.{common_steps}
-use Rattle.std.proofs.Common.{◌≡◌, ◌∙◌, ℕ, List, [], ◌∷◌, ◌++◌, sym, ap, codes, arith}
-use Rattle.hex.specs.Hex.{encode_lower}
-use Rattle.sha2.specs.Sha256.{sha256}
-use Rattle.cadf_set.specs.Inventory.{InventoryModel}
-use Rattle.cadf_linefile.specs.Lines.{with_line_feed, text_of_lines}
-use Rattle.cadf_linefile.specs.Verdict.{digest_line}
-use Rattle.cadf_inventory.specs.InventoryFile.{inventory_body, inventory_text, inventory_file, IsInventory, DoNotCollide}
-use Rattle.cadf_inventory.proofs.InventoryVerdictLemmas.{inventory-file-tells}
+use Rattle.cadf_sketch.proofs.Common.{common_steps, ◌≡◌, ◌∙◌, ℕ, List, [], ◌∷◌, ◌++◌, sym, ap, codes, arith, encode_lower, sha256, InventoryModel, with_line_feed, text_of_lines, digest_line, inventory_body, inventory_text, inventory_file, IsInventory, DoNotCollide, inventory-file-tells}
 
 text_of_more : (ls : List (List ℕ)) (l : List ℕ) → text_of_lines (ls ++ l ∷ []) ≡ text_of_lines ls ++ with_line_feed l
 text_of_more ls l = grind (arith, common_steps)

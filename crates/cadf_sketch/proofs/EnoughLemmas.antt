@@ -1,36 +1,6 @@
 -- A sketch with enough cells is decoded.
-use Rattle.std.proofs.lemmas.Grind.{common_steps}
-use Rattle.std.proofs.Common.{◌≡◌, ◌∙◌, ◌<◌, ◌*◌, ◌+◌, ◌++◌, ℕ, suc, Bool, true, false, rules}
-use Rattle.std.proofs.Common.{List, [], ◌∷◌, length, replicate, refl, ap, sym, subst, arith, inl, inr, length-append}
-use Rattle.std.specs.Prelude.{◌||◌, ◌&&◌, not}
-use Rattle.std.specs.List.{AllByRecursion}
-use Rattle.std.specs.List.Sorted.{IsStrictlySortedBy}
-use Rattle.std.specs.Ordering.{eq_by_cmp, is_eq}
-use Rattle.std.specs.Cmp.{tied_itself}
-use Rattle.std.specs.BTreeSet.{insert_key}
-use Rattle.std.proofs.lemmas.List.{length-replicate}
-use mathlib.Core.Bool.{true≢false}
+use Rattle.cadf_sketch.proofs.Common.{common_steps, ◌≡◌, ◌∙◌, ◌<◌, ◌*◌, ◌+◌, ◌++◌, ℕ, suc, Bool, true, false, rules, List, [], ◌∷◌, length, replicate, refl, ap, sym, subst, arith, inl, inr, length-append, ◌||◌, ◌&&◌, not, AllByRecursion, IsStrictlySortedBy, eq_by_cmp, is_eq, tied_itself, insert_key, length-replicate, true≢false, Listed, rising, sorted_keys, sorted_once, sorted_keys_are_sorted, listed_sorted, sorted_listed, listed-rising, rising-listed, rising_is_sorted, from_list-rising, any_listed, listed_any, text_total, text_same, or_cases, bool_cases, Text, text_cmp, IsWithin, IsDigest, InventoryModel, AreDigests, Digests, AreDigests-listed, each_digest, inventory_digest, LayoutModel, cell_at, is_lone, toggled, toggled_all, nothing, IsEnough, apart, flipped, Peels, none, more, differing, HasTooFewCells, cells_of, sketch_of, Cell}
 use Rattle.cadf_join.specs.Sets as set
-use Rattle.cadf_join.specs.Sets.{Listed, rising, sorted_keys}
-use Rattle.cadf_join.specs.laws.Rising.{sorted_once, sorted_keys_are_sorted, listed_sorted, sorted_listed, listed-rising, rising-listed}
-use Rattle.cadf_join.specs.laws.Rising.{rising_is_sorted, from_list-rising, any_listed, listed_any}
-use Rattle.cadf_join.specs.laws.Contents.{text_total, text_same}
-use Rattle.cadf_join.specs.laws.Sets.{or_cases, bool_cases}
-use Rattle.cadf_join.specs.Contents.{Text, text_cmp, IsWithin}
-use Rattle.cadf_line.specs.Digest.{IsDigest}
-use Rattle.cadf_set.specs.Inventory.{InventoryModel, AreDigests}
-use Rattle.cadf_line.specs.Missing.{Digests}
-use Rattle.cadf_set.proofs.Inventories.{AreDigests-listed}
-use Rattle.cadf_inventory.proofs.InventoryVerdictLemmas.{each_digest}
-use Rattle.cadf_inventory.specs.InventoryFile.{inventory_digest}
-use Rattle.cadf_sketch.specs.Layouts.{LayoutModel}
-use Rattle.cadf_sketch.specs.Cells.{cell_at, is_lone, toggled, toggled_all, nothing}
-use Rattle.cadf_sketch.specs.Enough.{IsEnough}
-use Rattle.cadf_sketch.specs.Flips.{apart, flipped}
-use Rattle.cadf_sketch.specs.Peeling.{Peels, none, more}
-use Rattle.cadf_sketch.specs.Refusals.{differing, HasTooFewCells}
-use Rattle.cadf_sketch.specs.Sketches.{cells_of, sketch_of}
-use Rattle.cadf_sketch.specs.declared.cell.Cell.{Cell}
 use Rattle.cadf_sketch.proofs.CellLemmas.{length-toggled_all}
 use Rattle.cadf_sketch.proofs.FlipLemmas.{either, one, in_one, in_apart, by_members, told, apart_none, apart-insert, first_is_new, rest_sorted}
 use Rattle.cadf_sketch.proofs.Cancelling.{AreWide, toggled_twice, wide-toggled_all, wide-nothing, toggled_all_push, toggled_all_insert, length-insert}

@@ -1,21 +1,6 @@
 -- The result of flipping digests one after another, and of flipping them back.
-use Rattle.std.proofs.lemmas.Grind.{common_steps}
-use Rattle.std.proofs.Common.{◌≡◌, ◌∙◌, Bool, true, false, List, [], ◌∷◌, sym, ap, arith}
-use Rattle.std.specs.Prelude.{◌||◌, ◌&&◌, not}
-use Rattle.std.specs.List.Sorted.{IsStrictlySortedBy}
-use Rattle.std.specs.FinSet.{remove, contains-remove}
-use Rattle.std.specs.Ordering.{eq_by_cmp, is_eq}
-use Rattle.std.specs.Cmp.{tied_itself}
-use Rattle.std.specs.declared.cmp.Ordering.TheVariants.{Less}
-use mathlib.Core.Bool.{true≢false}
+use Rattle.cadf_sketch.proofs.Common.{common_steps, ◌≡◌, ◌∙◌, Bool, true, false, List, [], ◌∷◌, sym, ap, arith, ◌||◌, ◌&&◌, not, IsStrictlySortedBy, remove, contains-remove, eq_by_cmp, is_eq, tied_itself, Less, true≢false, AllByRecursion-listed, from_list-rising, listed_any, rising_is_sorted, text_total, text_same, false_from, same_text, Text, text_cmp, Digests, apart}
 use Rattle.cadf_join.specs.Sets as set
-use Rattle.cadf_join.specs.laws.Rising.{AllByRecursion-listed, from_list-rising, listed_any, rising_is_sorted}
-use Rattle.cadf_join.specs.laws.Contents.{text_total, text_same}
-use Rattle.cadf_join.specs.laws.Sets.{false_from}
-use Rattle.cadf_join.specs.laws.Maps.{same_text}
-use Rattle.cadf_join.specs.Contents.{Text, text_cmp}
-use Rattle.cadf_line.specs.Missing.{Digests}
-use Rattle.cadf_sketch.specs.Flips.{apart}
 
 -- ---- sets by their members
 

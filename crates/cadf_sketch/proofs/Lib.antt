@@ -2,6 +2,7 @@ pub mod AskedLemmas
 pub mod Cancelling
 pub mod CellLemmas
 pub mod CheckLemmas
+pub mod Common
 pub mod DigestLemmas
 pub mod EnoughLemmas
 pub mod FlipLemmas

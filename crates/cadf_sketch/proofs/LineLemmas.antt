@@ -1,27 +1,5 @@
 -- Each line of a sketch's file decodes to the values that it encodes, and to no others.
-use Rattle.std.proofs.lemmas.Grind.{common_steps}
-use Rattle.std.proofs.Common.{◌≡◌, ℕ, ◌+◌, ◌*◌, ◌<◌, ◌⊎◌, inl, inr, zero, suc, List, [], ◌∷◌, ◌++◌, Bool, true, cond, length, take, drop}
-use Rattle.std.proofs.Common.{Option, Some, None, refl, sym, ap, ◌∙◌, subst, arith}
-use Rattle.std.specs.Prelude.{◌^◌, decimal, nat_eq, codes, slice_index, option_map}
-use Rattle.std.specs.Int.{w64, to_be_bytes, from_be_bytes, byte_at, bytes_high_first}
-use Rattle.std.specs.List.{starts_with}
-use Rattle.std.specs.Str.{bytes_eq}
-use Rattle.std.proofs.lemmas.Nat.{from_be_bytes-to_be_bytes_8, be_bytes_8}
-use Rattle.std.proofs.lemmas.List.{take-append-drop, length-append, length-drop, length-take-le}
-use Rattle.std.proofs.Math.Seq.{take-append_seam, drop-append_seam}
-use Rattle.hex.specs.Hex.{encode_lower, decode_sized, lower_digits}
-use Rattle.hex.proofs.HexLemmas.{length-encode_with}
-use Rattle.cadf_join.specs.Contents.{Text}
-use Rattle.cadf_line.specs.Digest.{IsDigest}
-use Rattle.cadf_inventory.specs.InventoryVerdict.{if_spelled, digest_of}
-use Rattle.cadf_inventory.proofs.DigestLines.{digest-again, digest-only, spelled-again, spelled-only}
-use Rattle.cadf_sketch.specs.Layouts.{LayoutModel, IsLayout, layout_of}
-use Rattle.cadf_sketch.specs.SketchFile.{spelled, head_line, counts_line, cell_line, AreWords64, IsHead, IsTally, IsCell}
-use Rattle.cadf_sketch.specs.SketchVerdict.{number_in, numbers_in, first_word, words_after, laid_out, headed, head_in_words, head_in}
-use Rattle.cadf_sketch.specs.SketchVerdict.{tally_in_numbers, counts_in_words, tally_in, cell_of_bytes, cell_in}
-use Rattle.cadf_sketch.specs.declared.cell.Cell.{Cell}
-use Rattle.cadf_sketch.specs.declared.layout.Head.{Head}
-use Rattle.cadf_sketch.specs.declared.tally.Tally.{Tally}
+use Rattle.cadf_sketch.proofs.Common.{common_steps, ◌≡◌, ℕ, ◌+◌, ◌*◌, ◌<◌, ◌⊎◌, inl, inr, zero, suc, List, [], ◌∷◌, ◌++◌, Bool, true, cond, length, take, drop, Option, Some, None, refl, sym, ap, ◌∙◌, subst, arith, ◌^◌, decimal, nat_eq, codes, slice_index, option_map, w64, to_be_bytes, from_be_bytes, byte_at, bytes_high_first, starts_with, bytes_eq, from_be_bytes-to_be_bytes_8, be_bytes_8, take-append-drop, length-append, length-drop, length-take-le, take-append_seam, drop-append_seam, encode_lower, decode_sized, lower_digits, length-encode_with, Text, IsDigest, if_spelled, digest_of, digest-again, digest-only, spelled-again, spelled-only, LayoutModel, IsLayout, layout_of, spelled, head_line, counts_line, cell_line, AreWords64, IsHead, IsTally, IsCell, number_in, numbers_in, first_word, words_after, laid_out, headed, head_in_words, head_in, tally_in_numbers, counts_in_words, tally_in, cell_of_bytes, cell_in, Cell, Head, Tally}
 use Rattle.cadf_sketch.proofs.NumberLemmas.{number-only, number-again, number_of_none, numbers-again, numbers-only, decimal_unblank, first_is}
 use Rattle.cadf_sketch.proofs.NumberLemmas.{after_is, cut_cases}
 

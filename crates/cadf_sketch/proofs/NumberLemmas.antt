@@ -1,29 +1,5 @@
 -- Numbers and the words that spell them.
-use Rattle.std.proofs.lemmas.Grind.{common_steps}
-use Rattle.std.proofs.Common.{◌≡◌, ℕ, zero, suc, ◌+◌, ◌<◌, List, [], ◌∷◌, ◌++◌, Bool, true, false, cond, length, take, drop, get_or, ◌≤◌, ◌⊎◌, inl}
-use Rattle.std.proofs.Common.{inr, Option, Some, None, Result, Ok, Err, refl, sym, ap, ◌∙◌, subst, arith, append-nil, length-drop, ◌-◌, slice_set, length-set}
-use Rattle.std.specs.Prelude.{◌==◌, ◌&&◌, ◌||◌, ◌^◌, not, decimal, nat_lt, flat_map, option_map, IsUtf8}
-use Rattle.std.specs.Int.{IsInRange}
-use Rattle.std.specs.List.{position_or_len, list_any}
-use Rattle.std.specs.Str.Parse.{AllDigits, digits_value, ParsesUnsigned}
-use Rattle.std.specs.Bool.{Decides, then_some}
-use Rattle.std.specs.Result.{result_ok}
-use Rattle.std.specs.Str.{bytes_eq}
-use Rattle.std.proofs.lemmas.Slice.Eq.{bytes_eq-Decides}
-use Rattle.std.proofs.lemmas.Str.Parse.{IsNumeralModel, numerals_by_value, tells_digits}
-use Rattle.std.proofs.lemmas.Fmt.{digits_decimal, digits_value-decimal, parse-decimal, IsAscii-decimal, decimal_nonempty}
-use Rattle.std.proofs.lemmas.Str.{IsUtf8-from_ascii}
-use Rattle.std.proofs.lemmas.Bool.{ltb-true, lt-ltb, ltb-false}
-use Rattle.std.proofs.lemmas.Bool.Decides.{nat_tests}
-use Rattle.std.proofs.lemmas.List.Sums.{split_at_first, passes_at_first, position_or_len_is}
-use Rattle.std.proofs.Math.ListN.{drop_of_length-le}
-use Rattle.std.proofs.Math.Seq.{take-append_seam, drop-append-add}
-use Rattle.std.proofs.lemmas.List.{take_all, take_more_set}
-use Rattle.std.proofs.lemmas.List.Folds.{list_any_at}
-use Rattle.memchr.specs.Find.{IsFirstByte, is_byte}
-use Rattle.cadf_join.specs.laws.Sets.{false_from}
-use Rattle.cadf_sketch.specs.SketchFile.{spelled, AreWords64}
-use Rattle.cadf_sketch.specs.SketchVerdict.{number_in, first_word, words_after, put_before, numbers_in, counts_in_words, tally_in_numbers}
+use Rattle.cadf_sketch.proofs.Common.{common_steps, ◌≡◌, ℕ, zero, suc, ◌+◌, ◌<◌, List, [], ◌∷◌, ◌++◌, Bool, true, false, cond, length, take, drop, get_or, ◌≤◌, ◌⊎◌, inl, inr, Option, Some, None, Result, Ok, Err, refl, sym, ap, ◌∙◌, subst, arith, append-nil, length-drop, ◌-◌, slice_set, length-set, ◌==◌, ◌&&◌, ◌||◌, ◌^◌, not, decimal, nat_lt, flat_map, option_map, IsUtf8, IsInRange, position_or_len, list_any, AllDigits, digits_value, ParsesUnsigned, Decides, then_some, result_ok, bytes_eq, bytes_eq-Decides, IsNumeralModel, numerals_by_value, tells_digits, digits_decimal, digits_value-decimal, parse-decimal, IsAscii-decimal, decimal_nonempty, IsUtf8-from_ascii, ltb-true, lt-ltb, ltb-false, nat_tests, split_at_first, passes_at_first, position_or_len_is, drop_of_length-le, take-append_seam, drop-append-add, take_all, take_more_set, list_any_at, IsFirstByte, is_byte, false_from, spelled, AreWords64, number_in, first_word, words_after, put_before, numbers_in, counts_in_words, tally_in_numbers}
 
 pub own : IsNumeralModel (AllDigits 10) (digits_value 10)
 own = numerals_by_value _ tells_digits

@@ -1,10 +1,5 @@
 -- How a run of removals begins and continues.
-use Rattle.std.proofs.lemmas.Grind.{common_steps}
-use Rattle.std.proofs.Common.{◌≡◌, ◌<◌, ℕ, List, [], ◌∷◌, ◌++◌, length, true, sym, subst, arith}
-use Rattle.cadf_sketch.specs.Layouts.{LayoutModel}
-use Rattle.cadf_sketch.specs.Cells.{cell_at, is_lone, toggled}
-use Rattle.cadf_sketch.specs.Peeling.{Peels, none, more}
-use Rattle.cadf_sketch.specs.declared.cell.Cell.{Cell}
+use Rattle.cadf_sketch.proofs.Common.{common_steps, ◌≡◌, ◌<◌, ℕ, List, [], ◌∷◌, ◌++◌, length, true, sym, subst, arith, LayoutModel, cell_at, is_lone, toggled, Peels, none, more, Cell}
 
 pub peels_none : (layout : LayoutModel) (start : List Cell) (taken : List (List ℕ)) → taken ≡ [] → Peels layout start taken start
 peels_none layout start taken e = subst (λ ds. Peels layout start ds start) (sym e) none

@@ -1,15 +1,5 @@
 -- The places that are yet to be checked.
-use Rattle.std.proofs.lemmas.Grind.{common_steps}
-use Rattle.std.proofs.Common.{◌≡◌, ◌<◌, ◌++◌, ℕ, Bool, true, false, List, [], ◌∷◌, arith}
-use Rattle.std.specs.Prelude.{◌||◌, nat_eq}
-use Rattle.std.specs.List.{list_any}
-use Rattle.std.proofs.lemmas.List.Folds.{list_any-append}
-use Rattle.std.proofs.lemmas.Bool.{eqb-true}
-use Rattle.cadf_join.specs.laws.Sets.{and_second}
-use Rattle.cadf_sketch.specs.Layouts.{LayoutModel}
-use Rattle.cadf_sketch.specs.Cells.{cell_at, is_lone, toggled}
-use Rattle.cadf_sketch.specs.Peeling.{Awaits, three_places}
-use Rattle.cadf_sketch.specs.declared.cell.Cell.{Cell}
+use Rattle.cadf_sketch.proofs.Common.{common_steps, ◌≡◌, ◌<◌, ◌++◌, ℕ, Bool, true, false, List, [], ◌∷◌, arith, ◌||◌, nat_eq, list_any, list_any-append, eqb-true, and_second, LayoutModel, cell_at, is_lone, toggled, Awaits, three_places, Cell}
 use Rattle.cadf_sketch.proofs.CellLemmas.{at_turned, length-toggled}
 
 or_true : (b : Bool) → (b || true) ≡ true

@@ -1,31 +1,5 @@
 -- The verdict on a sketch's file accepts exactly the files of sketches, and a file determines its sketch.
-use Rattle.std.proofs.lemmas.Grind.{common_steps}
-use Rattle.std.proofs.Common.{◌≡◌, ℕ, suc, ◌+◌, ◌*◌, ◌<◌, List, [], ◌∷◌, ◌++◌, length, map, Bool, true, false, Option, Some, None, refl, sym, ap, ◌∙◌, arith, true≢false, rules}
-use Rattle.std.specs.Prelude.{◌==◌, ◌&&◌, ◌^◌, not, is_some, decimal, flat_map}
-use Rattle.std.specs.List.{filter_map}
-use Rattle.std.specs.Int.{IsInRange, w64, to_be_bytes}
-use Rattle.std.specs.Str.Parse.{AllDigits}
-use Rattle.std.proofs.lemmas.Str.Parse.{tells_digits}
-use Rattle.std.proofs.lemmas.Fmt.{digits_decimal}
-use Rattle.std.proofs.lemmas.Bool.{lt-ltb}
-use Rattle.cadf_join.specs.Contents.{Text}
-use Rattle.cadf_event.specs.Known.{IsNameText}
-use Rattle.cadf_event.specs.LogName.{is_name_text, is_unbroken}
-use Rattle.cadf_event.proofs.LogNameLemmas.{unbroken_quoted, both_unbroken}
-use Rattle.cadf_linefile.specs.Verdict.{log_line, with_digest_line, begins_digest}
-use Rattle.cadf_linefile.proofs.BodyLines.{AreAfter}
-use Rattle.cadf_linefile.proofs.LinesLemmas.{are_unbroken, both, and_true}
-use Rattle.cadf_linefile.specs.ModelKind.{AcceptsModels}
-use Rattle.cadf_linefile.proofs.ModelLemmas.{Plain, lines_of, Follows, Ends, IsModelKind, accepts-models, models-tell, name_is}
-use Rattle.cadf_linefile.proofs.UnbrokenLines.{unbroken_digest}
-use Rattle.cadf_linefile.proofs.VerdictLemmas.{good_log}
-use Rattle.cadf_inventory.proofs.DigestLines.{plain_digest, unbroken_digest_of}
-use Rattle.cadf_sketch.specs.Sketches.{SketchModel}
-use Rattle.cadf_sketch.specs.SketchFile.{sketch_header, head_of, head_line, counts_line, cell_line, cell_lines, sketch_body, AreWords64, IsHead, IsTally, HasParts, IsSketch, SketchFileIsInjective}
-use Rattle.cadf_sketch.specs.SketchVerdict.{head_in, tally_in, cell_in, shape_unless, cells_of_head, sketch_of_parts, sketch_model_in, sketch_kind}
-use Rattle.cadf_sketch.specs.declared.cell.Cell.{Cell}
-use Rattle.cadf_sketch.specs.declared.layout.Head.{Head}
-use Rattle.cadf_sketch.specs.declared.tally.Tally.{Tally}
+use Rattle.cadf_sketch.proofs.Common.{common_steps, ◌≡◌, ℕ, suc, ◌+◌, ◌*◌, ◌<◌, List, [], ◌∷◌, ◌++◌, length, map, Bool, true, false, Option, Some, None, refl, sym, ap, ◌∙◌, arith, true≢false, rules, ◌==◌, ◌&&◌, ◌^◌, not, is_some, decimal, flat_map, filter_map, IsInRange, w64, to_be_bytes, AllDigits, tells_digits, digits_decimal, lt-ltb, Text, IsNameText, is_name_text, is_unbroken, unbroken_quoted, both_unbroken, log_line, with_digest_line, begins_digest, AreAfter, are_unbroken, both, and_true, AcceptsModels, Plain, lines_of, Follows, Ends, IsModelKind, accepts-models, models-tell, name_is, unbroken_digest, good_log, plain_digest, unbroken_digest_of, SketchModel, sketch_header, head_of, head_line, counts_line, cell_line, cell_lines, sketch_body, AreWords64, IsHead, IsTally, HasParts, IsSketch, SketchFileIsInjective, head_in, tally_in, cell_in, shape_unless, cells_of_head, sketch_of_parts, sketch_model_in, sketch_kind, Cell, Head, Tally}
 use Rattle.cadf_sketch.proofs.NumberLemmas.{own}
 use Rattle.cadf_sketch.proofs.LineLemmas.{head-again, head-only, tally-again, tally-only, cell-again, cell-only}
 use Rattle.cadf_sketch.proofs.WholeLemmas.{AreCells}

@@ -1,15 +1,5 @@
 -- Counts to which the bits of a further word are added.
-use Rattle.std.proofs.lemmas.Grind.{common_steps}
-use Rattle.std.proofs.Common.{◌≡◌, ◌∙◌, ◌<◌, ◌≤◌, ◌+◌, ◌-◌, ◌/◌, ◌%◌, ◌^◌, ℕ, zero, suc}
-use Rattle.std.proofs.Common.{List, [], ◌∷◌, length, get_or, set, refl, ap, sym, arith, below_more, add_assoc, zero-add, Bool, true, false, cond}
-use Rattle.std.specs.Prelude.{nat_eq, count_by}
-use Rattle.std.proofs.Math.Nat.{mod-add-mod}
-use Rattle.std.proofs.lemmas.List.Recursion.{is_count_by}
-use Rattle.std.proofs.lemmas.Bool.Decides.{nat_tests}
-use Rattle.std.proofs.lemmas.List.{get_or-set_same, get_or-set_other, length-set, ext_get_or}
-use Rattle.cadf_sketch.specs.Cells.{word}
-use Rattle.cadf_sketch.specs.Tallies.{with_bits, tallied, tallied_all, has_bit}
-use Rattle.cadf_sketch.specs.declared.tally.Tally.{Tally}
+use Rattle.cadf_sketch.proofs.Common.{common_steps, ◌≡◌, ◌∙◌, ◌<◌, ◌≤◌, ◌+◌, ◌-◌, ◌/◌, ◌%◌, ◌^◌, ℕ, zero, suc, List, [], ◌∷◌, length, get_or, set, refl, ap, sym, arith, below_more, add_assoc, zero-add, Bool, true, false, cond, nat_eq, count_by, mod-add-mod, is_count_by, nat_tests, get_or-set_same, get_or-set_other, length-set, ext_get_or, word, with_bits, tallied, tallied_all, has_bit, Tally}
 
 pub length-with_bits : (ns : List ℕ) (w : ℕ) → length (with_bits ns w) ≡ length ns
 length-with_bits [] w = refl

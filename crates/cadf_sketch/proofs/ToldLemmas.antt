@@ -1,17 +1,5 @@
 -- Decoding one further line of a sketch's file, and the sketch of all lines.
-use Rattle.std.proofs.lemmas.Grind.{common_steps}
-use Rattle.std.proofs.Common.{◌≡◌, ℕ, ◌+◌, ◌*◌, ◌<◌, ◌≤◌, List, [], ◌∷◌, ◌++◌, length, map, true, Some, None, sym, ap, ◌∙◌, subst, arith}
-use Rattle.std.specs.Prelude.{◌&&◌, is_some, nat_eq}
-use Rattle.std.specs.List.{AllByRecursion}
-use Rattle.std.proofs.lemmas.Bool.{eqb-true, lt-ltb}
-use Rattle.std.proofs.lemmas.List.{length-append}
-use Rattle.cadf_join.specs.Contents.{Text}
-use Rattle.cadf_sketch.specs.SketchFile.{head_line, counts_line, cell_line, IsHead, IsCell, HasParts}
-use Rattle.cadf_sketch.specs.SketchVerdict.{head_in, tally_in, shape_unless, cells_of_head, cause_of_cell, cause_after, is_whole, sketch_of_parts}
-use Rattle.cadf_sketch.specs.SketchLines.{AreCellsOf, IsCellPut}
-use Rattle.cadf_sketch.specs.declared.cell.Cell.{Cell}
-use Rattle.cadf_sketch.specs.declared.layout.Head.{Head}
-use Rattle.cadf_sketch.specs.declared.tally.Tally.{Tally}
+use Rattle.cadf_sketch.proofs.Common.{common_steps, ◌≡◌, ℕ, ◌+◌, ◌*◌, ◌<◌, ◌≤◌, List, [], ◌∷◌, ◌++◌, length, map, true, Some, None, sym, ap, ◌∙◌, subst, arith, ◌&&◌, is_some, nat_eq, AllByRecursion, eqb-true, lt-ltb, length-append, Text, head_line, counts_line, cell_line, IsHead, IsCell, HasParts, head_in, tally_in, shape_unless, cells_of_head, cause_of_cell, cause_after, is_whole, sketch_of_parts, AreCellsOf, IsCellPut, Cell, Head, Tally}
 use Rattle.cadf_sketch.proofs.LineLemmas.{head-again, head-only, tally-only, cell-only}
 
 -- ---- one further line

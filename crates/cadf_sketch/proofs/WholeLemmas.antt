@@ -1,28 +1,5 @@
 -- The sketch of an inventory satisfies the invariant of sketches.
-use Rattle.std.proofs.lemmas.Grind.{common_steps}
-use Rattle.std.proofs.Common.{◌≡◌, ℕ, zero, suc, ◌+◌, ◌*◌, ◌/◌, ◌%◌, ◌^◌, ◌<◌, List, [], ◌∷◌, length, replicate, refl, sym, ap, ◌∙◌, arith}
-use Rattle.std.specs.Prelude.{slice_index, bit_xor}
-use Rattle.std.specs.List.{AllByRecursion}
-use Rattle.std.specs.Simd.Lanes.{zip2}
-use Rattle.std.proofs.lemmas.Nat.{xor_of_8, xor_lt, mod_below}
-use Rattle.std.proofs.lemmas.List.{length-replicate}
-use Rattle.cadf_set.specs.Inventory.{InventoryModel, AreDigests}
-use Rattle.cadf_join.specs.Contents.{Text}
-use Rattle.cadf_line.specs.Digest.{IsDigest}
-use Rattle.cadf_inventory.proofs.InventoryVerdictLemmas.{each_digest}
-use Rattle.cadf_inventory.proofs.RisingLists.{digests_push}
-use Rattle.sha2.specs.Sha256.{sha256, digest_bytes, final_hash, initial_hash_256}
-use Rattle.sha2.proofs.Facts256.{length-sha256}
-use Rattle.cadf_inventory.specs.InventoryFile.{inventory_digest}
-use Rattle.cadf_sketch.specs.Layouts.{LayoutModel, IsLayout}
-use Rattle.cadf_sketch.specs.Cells.{word, check, each_xor, nothing, mixed, mixed_at, cell_at, toggled, toggled_all}
-use Rattle.cadf_sketch.specs.Peeling.{Peels, none, more}
-use Rattle.cadf_sketch.specs.Refusals.{differing}
-use Rattle.cadf_sketch.specs.Sketches.{SketchModel, cells_of, sketch_of}
-use Rattle.cadf_sketch.specs.SketchFile.{AreWords64, IsTally, IsCell, HasParts}
-use Rattle.cadf_sketch.specs.Tallies.{with_bits, tallied, tallied_all, tally_of}
-use Rattle.cadf_sketch.specs.declared.cell.Cell.{Cell}
-use Rattle.cadf_sketch.specs.declared.tally.Tally.{Tally}
+use Rattle.cadf_sketch.proofs.Common.{common_steps, ◌≡◌, ℕ, zero, suc, ◌+◌, ◌*◌, ◌/◌, ◌%◌, ◌^◌, ◌<◌, List, [], ◌∷◌, length, replicate, refl, sym, ap, ◌∙◌, arith, slice_index, bit_xor, AllByRecursion, zip2, xor_of_8, xor_lt, mod_below, length-replicate, InventoryModel, AreDigests, Text, IsDigest, each_digest, digests_push, sha256, digest_bytes, final_hash, initial_hash_256, length-sha256, inventory_digest, LayoutModel, IsLayout, word, check, each_xor, nothing, mixed, mixed_at, cell_at, toggled, toggled_all, Peels, none, more, differing, SketchModel, cells_of, sketch_of, AreWords64, IsTally, IsCell, HasParts, with_bits, tallied, tallied_all, tally_of, Cell, Tally}
 use Rattle.cadf_sketch.proofs.TallyLemmas.{length-with_bits}
 use Rattle.cadf_sketch.proofs.CellLemmas.{length-toggled_all}
 use Rattle.cadf_sketch.proofs.LineLemmas.{append_fits, high_fits}

@@ -1,9 +1,5 @@
 -- The lines of a sketch, by their places, and the line of its counts.
-use Rattle.std.proofs.Common.{◌≡◌, ◌∙◌, ◌-◌, ◌<◌, ◌≤◌, ℕ, suc, [], length, map, get_or, sym, ap, arith}
-use Rattle.std.proofs.lemmas.List.{get_or-map, length-map}
-use Rattle.cadf_sketch.specs.SketchFile.{cell_line, cell_lines}
-use Rattle.cadf_sketch.specs.Sketches.{SketchModel}
-use Rattle.cadf_sketch.specs.declared.cell.Cell.{Cell}
+use Rattle.cadf_sketch.proofs.Common.{◌≡◌, ◌∙◌, ◌-◌, ◌<◌, ◌≤◌, ℕ, suc, [], length, map, get_or, sym, ap, arith, get_or-map, length-map, cell_line, cell_lines, SketchModel, Cell}
 
 -- the lines of cells come after two others
 pub cell_there : (s : SketchModel) (place : ℕ) (none : Cell) → 2 ≤ place → place < length (cell_lines s)

@@ -1,23 +1,6 @@
 -- Which parts have the values of a conflicted key.
-use Rattle.std.proofs.Common.{◌≡◌, ◌⊎◌, true, List, [], ◌∷◌, length, refl, sym, ap, ◌∙◌, subst, inl, inr, true≢false, arith, le-leb}
-use Rattle.std.specs.Prelude.{◌≢◌, nat_le}
-use Rattle.std.specs.Ordering.{is_eq}
-use Rattle.std.specs.declared.cmp.Ordering.TheVariants.{Less, Equal}
-use Rattle.std.specs.Cmp.{tied_itself}
-use Rattle.std.specs.Cmp.Lexicographic.{bytes_decides}
-use Rattle.std.specs.List.Sorted.{IsStrictlySortedBy}
-use Rattle.cadf_join.specs.Sets.{Listed}
-use Rattle.cadf_join.specs.Contents.{Text, Texts, Contents, text_cmp, Has}
-use Rattle.cadf_join.specs.laws.Contents.{text_total}
-use Rattle.cadf_join.specs.laws.Rising.{AllByRecursion-listed}
+use Rattle.cadf_split.proofs.Common.{◌≡◌, ◌⊎◌, true, List, [], ◌∷◌, length, refl, sym, ap, ◌∙◌, subst, inl, inr, true≢false, arith, le-leb, ◌≢◌, nat_le, is_eq, Less, Equal, tied_itself, bytes_decides, IsStrictlySortedBy, Listed, Text, Texts, Contents, text_cmp, Has, text_total, AllByRecursion-listed, is_text, values, is_conflicted, value_listed, values_rise, listed_value, part_by, IsInTwoParts}
 use Rattle.cadf_join.proofs.Members as members
-use Rattle.cadf_line.specs.Atoms.{is_text}
-use Rattle.cadf_atom.specs.Shown.{values}
-use Rattle.cadf_set.specs.Ruled.{is_conflicted}
-use Rattle.cadf_set.proofs.Again.{value_listed}
-use Rattle.cadf_log.proofs.Rising.{values_rise}
-use Rattle.cadf_set.proofs.Membership.{listed_value}
-use Rattle.cadf_split.specs.Parts.{part_by, IsInTwoParts}
 use Rattle.cadf_split.proofs.Parts.{in_part, part_has, part_key}
 
 -- ---- two values

@@ -1,10 +1,11 @@
-pub mod Parts
-pub mod Keys
+pub mod Common
 pub mod Conflicts
-pub mod KeyPlaces
 pub mod Dates
-pub mod Shown
-pub mod PartFiles
-pub mod Writing
+pub mod KeyPlaces
+pub mod Keys
 pub mod LaterDates
+pub mod PartFiles
+pub mod Parts
+pub mod Shown
 pub mod WindowOrder
+pub mod Writing

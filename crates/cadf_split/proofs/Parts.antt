@@ -1,19 +1,8 @@
 -- Sets in parts by a key: which members a part has, and what the parts have together.
-use Rattle.std.proofs.lemmas.Grind.{common_steps}
-use Rattle.std.proofs.Common.{arith, ◌≡◌, List, [], ◌∷◌, map, refl, sym, ap, ◌∙◌, subst, inl, inr}
-use Rattle.std.specs.Cmp.Lexicographic.{bytes_decides}
+use Rattle.cadf_split.proofs.Common.{common_steps, arith, ◌≡◌, List, [], ◌∷◌, map, refl, sym, ap, ◌∙◌, subst, inl, inr, bytes_decides, Listed, rising, Text, Texts, Contents, Has, IsWithin, texts_total, texts_same, text_total, text_same, listed-rising, rising-listed, carrier, IsGrounded, with_carriers, missing, missing_by, unknown, Digests, digests_of, NoCollision, listed_map, map_listed, has_carrier, of_carriers, with_carriers_over, with_carriers_least, missing_within, missing_by_is, union_all, part_by, keys_by, parts_by, IsOfCarrier}
 use Rattle.cadf_join.specs.Sets as set
-use Rattle.cadf_join.specs.Sets.{Listed, rising}
-use Rattle.cadf_join.specs.Contents.{Text, Texts, Contents, Has, IsWithin}
-use Rattle.cadf_join.specs.laws.Contents.{texts_total, texts_same, text_total, text_same}
-use Rattle.cadf_join.specs.laws.Rising.{listed-rising, rising-listed}
 use Rattle.cadf_join.specs.laws.Sets as laws
 use Rattle.cadf_join.proofs.Members as members
-use Rattle.cadf_line.specs.Atoms.{carrier, IsGrounded}
-use Rattle.cadf_line.specs.Missing.{with_carriers, missing, missing_by, unknown, Digests, digests_of, NoCollision}
-use Rattle.cadf_line.proofs.Missing.{listed_map, map_listed, has_carrier, of_carriers, with_carriers_over, with_carriers_least, missing_within, missing_by_is}
-use Rattle.cadf_atom.specs.Contributions.{union_all}
-use Rattle.cadf_split.specs.Parts.{part_by, keys_by, parts_by, IsOfCarrier}
 
 same_sets : (s t : Contents) → IsWithin s t → IsWithin t s → s ≡ t
 same_sets = laws.same_from_within texts_total texts_same

@@ -1,20 +1,5 @@
 -- The order of windows: of names as of keys, and of keys as of instants.
-use Rattle.std.proofs.lemmas.Grind.{common_steps}
-use Rattle.std.proofs.Common.{◌≡◌, ℕ, ◌+◌, ◌/◌, ◌%◌, ◌≤◌, [], ◌∷◌, ◌++◌, codes, true, false, cond, sym, ap, ◌∙◌, arith, true≢false, ℤ, ◌≤ℤ◌}
-use Rattle.std.specs.declared.cmp.Ordering.{Ordering}
-use Rattle.std.specs.declared.cmp.Ordering.TheVariants.{Less}
-use Rattle.std.specs.Ordering.{nat_cmp, ordering_then, ordering_reverse, is_gt}
-use Rattle.std.proofs.lemmas.Cmp.{nat_list_cmp_total}
-use Rattle.std.specs.Int.Signed.{◌<ℤ◌}
-use Rattle.std.proofs.lemmas.Int.{by_lt_z}
-use Rattle.jiff_core.proofs.SignedLemmas.{signed_arith}
-use Rattle.cadf_time.specs.Time.{two_digits, year_of, month_of, day_in_month}
-use Rattle.cadf_join.specs.Contents.{Text, text_cmp}
-use Rattle.cadf_line.specs.Atoms.{is_text}
-use Rattle.cadf_pathset.proofs.Orders.{then_more}
-use Rattle.cadf_split.specs.declared.unit.Unit.{Unit}
-use Rattle.cadf_split.specs.declared.unit.Unit.TheVariants.{Month, Day, Hour}
-use Rattle.cadf_split.specs.Windows.{day_number, hour_of, IsShownDay, numbers, month_text, window, window_name, name, shared_key}
+use Rattle.cadf_split.proofs.Common.{common_steps, ◌≡◌, ℕ, ◌+◌, ◌/◌, ◌%◌, ◌≤◌, [], ◌∷◌, ◌++◌, codes, true, false, cond, sym, ap, ◌∙◌, arith, true≢false, ℤ, ◌≤ℤ◌, Ordering, Less, nat_cmp, ordering_then, ordering_reverse, is_gt, nat_list_cmp_total, ◌<ℤ◌, by_lt_z, signed_arith, two_digits, year_of, month_of, day_in_month, Text, text_cmp, is_text, then_more, Unit, Month, Day, Hour, day_number, hour_of, IsShownDay, numbers, month_text, window, window_name, name, shared_key}
 use Rattle.cadf_split.proofs.LaterDates.{later_year, later_month, later_day, same_day, month_some}
 
 -- ---- numbers by their parts

@@ -1,2 +1,3 @@
+pub mod Common
 pub mod TimeLaws
 pub mod TimeReading

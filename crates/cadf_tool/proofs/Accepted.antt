@@ -1,15 +1,6 @@
 -- Bytes that a run accepted.
-use Rattle.std.proofs.Common.{◌≡◌, ℕ, List, [], ◌∷◌, map, take, drop, length, ◌-◌, Some, IfSome, refl, subst}
-use Rattle.std.proofs.KnownBytes.{Consumes-whole}
-use Rattle.cadf_tool.specs.declared.input.Loaded.{Loaded}
-use Rattle.cadf_tool.specs.declared.request.Request.{Request}
+use Rattle.cadf_tool.proofs.Common.{◌≡◌, ℕ, List, [], ◌∷◌, map, take, drop, length, ◌-◌, Some, IfSome, refl, subst, Consumes-whole, Loaded, Request, IsInput, SourceState, input_spec, IsReadAs, AreLoaded, task, AreOutside, AreAccepted, externals, AreSources}
 use Rattle.cadf_tool.specs.declared.request.Request.TheVariants as ask
-use Rattle.cadf_tool.specs.Input.{IsInput}
-use Rattle.cadf_tool.specs.Inputs.{SourceState}
-use Rattle.cadf_tool.specs.Run.{input_spec, IsReadAs, AreLoaded}
-use Rattle.cadf_tool.specs.Request.{task}
-use Rattle.cadf_tool.specs.Requested.{AreOutside, AreAccepted}
-use Rattle.cadf_tool.specs.Exchange.{externals, AreSources}
 use Rattle.cadf_tool.proofs.LoadedLists.{head_same, tail_same, no_tail, no_head}
 
 input_read : (o n : SourceState) (bytes : List ℕ) (l : Loaded) → o.left ≡ Some bytes → IsReadAs input_spec (record { old = o; new = n }) l → IsInput bytes l

@@ -1,17 +1,7 @@
 -- The atoms of contributions in a list.
-use Rattle.std.proofs.lemmas.Grind.{common_steps}
-use Rattle.std.proofs.Common.{arith, ◌≡◌, ◌↔◌, List, [], ◌∷◌, ◌++◌, map, sym, ◌∙◌}
-use Rattle.std.specs.Prelude.{Contains}
-use Rattle.cadf_join.specs.Contents.{Contents, IsWithin}
-use Rattle.cadf_join.specs.laws.Contents.{texts_total, texts_same}
+use Rattle.cadf_tool.proofs.Common.{common_steps, arith, ◌≡◌, ◌↔◌, List, [], ◌∷◌, ◌++◌, map, sym, ◌∙◌, Contains, Contents, IsWithin, texts_total, texts_same, Contribution, ARuling, atoms, union_all, contains_listed, listed_contains, listed_within, Loaded, atoms_loaded, Derivation, External, Empty, Joined, Kept, Ruled, Delta, Files, End, File, contribution_of, external_inputs, external_inputs_of, all_inputs, brought, brought_by}
 use Rattle.cadf_join.specs.laws.Sets as laws
 use Rattle.cadf_join.proofs.Members as members
-use Rattle.cadf_atom.specs.Contributions.{Contribution, ARuling, atoms, union_all}
-use Rattle.cadf_set.proofs.History.{contains_listed, listed_contains, listed_within}
-use Rattle.cadf_tool.specs.declared.input.Loaded.{Loaded}
-use Rattle.cadf_tool.specs.Told.{atoms_loaded}
-use Rattle.cadf_tool.specs.Exchange.{Derivation, External, Empty, Joined, Kept, Ruled, Delta, Files, End, File, contribution_of}
-use Rattle.cadf_tool.specs.Exchange.{external_inputs, external_inputs_of, all_inputs, brought, brought_by}
 
 abbrev pub inputs_by : List Contribution → Contents
 inputs_by cs = union_all (map atoms cs)

@@ -1,19 +1,6 @@
 -- What a delta of files against others has, by whichever means it was computed.
-use Rattle.std.proofs.Common.{◌≡◌, ℕ, ◌+◌, Bool, true, false, cond, List, [], ◌∷◌, ◌⊎◌, inl, inr, length, Option, None, Some, Ok, refl, sym, ap, ◌∙◌, subst}
+use Rattle.cadf_tool.proofs.Common.{◌≡◌, ℕ, ◌+◌, Bool, true, false, cond, List, [], ◌∷◌, ◌⊎◌, inl, inr, length, Option, None, Some, Ok, refl, sym, ap, ◌∙◌, subst, Text, Texts, Contents, Has, IsWithin, missing_or_held, IsReplicaSet, DoNotCollide, ReplicaModel, IsReplica, Loaded, Replica, log_named, first_named, is_other, other_log, union_of, join_from, join_of, on_ok, missing_of, if_named, part_of_unions, missing_by_at, Means, ByFiles, ByInventory, BySketch, IsTelling, IsDeltaOf}
 use Rattle.cadf_join.specs.Sets as set
-use Rattle.cadf_join.specs.Contents.{Text, Texts, Contents, Has, IsWithin}
-use Rattle.cadf_line.proofs.Missing.{missing_or_held}
-use Rattle.cadf_atom.specs.AtomSets.{IsReplicaSet}
-use Rattle.cadf_inventory.specs.InventoryFile.{DoNotCollide}
-use Rattle.cadf_set.specs.Replica.{ReplicaModel}
-use Rattle.cadf_file.specs.File.{IsReplica}
-use Rattle.cadf_tool.specs.declared.input.Loaded.{Loaded}
-use Rattle.cadf_tool.specs.declared.input.Loaded.TheVariants.{Replica}
-use Rattle.cadf_tool.specs.Told.{log_named}
-use Rattle.cadf_tool.specs.Join.{first_named, is_other, other_log, union_of, join_from, join_of, on_ok}
-use Rattle.cadf_tool.specs.Missing.{missing_of, if_named, part_of_unions}
-use Rattle.cadf_tool.specs.MissingBy.{missing_by_at}
-use Rattle.cadf_tool.specs.Exchange.{Means, ByFiles, ByInventory, BySketch, IsTelling, IsDeltaOf}
 use Rattle.cadf_tool.proofs.InputUnions.{join_is, IsPart, part_is, part_within, part_kept}
 use Rattle.cadf_tool.proofs.InventoryParts.{noted_by, part_by_is, part_by_within, part_by_kept, part_by_part}
 use Rattle.cadf_tool.proofs.SketchParts.{sketched_by, part_by_answer, part_by_sketched}

@@ -1,26 +1,8 @@
 -- Whatever was run, a file has its log, and no atoms but those that it brought.
-use Rattle.std.proofs.Common.{◌≡◌, ℕ, Bool, List, [], ◌∷◌, Option, None, Some, Ok, refl, sym, ap, ◌∙◌, subst}
-use Rattle.std.specs.Option.{option_or}
-use Rattle.cadf_join.specs.Contents.{Text, Texts, Contents, Has, IsWithin}
+use Rattle.cadf_tool.proofs.Common.{◌≡◌, ℕ, Bool, List, [], ◌∷◌, Option, None, Some, Ok, refl, sym, ap, ◌∙◌, subst, option_or, Text, Texts, Contents, Has, IsWithin, texts_total, texts_same, carrier, IsReplicaSet, one_atom, ruling_atom, ReplicaModel, kept_empty, kept_union, IsReplica, written_file, Loaded, Replica, IsInput, log_named, atoms_loaded, IsHeld, first_named, union_of, join_of, Means, Derivation, External, Empty, Joined, Kept, Ruled, Delta, Files, End, File, kept, IsByCarrier, files_of, IsReadOf, IsDeltaOf, IsResult, IsDerived, AreRead, IsOfRun, brought, brought_by, log_of, first_log, HoldsAtMost}
 use Rattle.cadf_join.specs.Sets as set
-use Rattle.cadf_join.specs.laws.Contents.{texts_total, texts_same}
 use Rattle.cadf_join.specs.laws.Sets as laws
 use Rattle.cadf_join.proofs.Members as members
-use Rattle.cadf_line.specs.Atoms.{carrier}
-use Rattle.cadf_atom.specs.AtomSets.{IsReplicaSet}
-use Rattle.cadf_atom.specs.Contributions.{one_atom}
-use Rattle.cadf_line.specs.RulingTexts.{ruling_atom}
-use Rattle.cadf_set.specs.Replica.{ReplicaModel}
-use Rattle.cadf_set.proofs.ContributionLaws.{kept_empty, kept_union}
-use Rattle.cadf_file.specs.File.{IsReplica}
-use Rattle.cadf_tool.specs.WrittenFile.{written_file}
-use Rattle.cadf_tool.specs.declared.input.Loaded.{Loaded}
-use Rattle.cadf_tool.specs.declared.input.Loaded.TheVariants.{Replica}
-use Rattle.cadf_tool.specs.Input.{IsInput}
-use Rattle.cadf_tool.specs.Told.{log_named, atoms_loaded, IsHeld}
-use Rattle.cadf_tool.specs.Join.{first_named, union_of, join_of}
-use Rattle.cadf_tool.specs.Exchange.{Means, Derivation, External, Empty, Joined, Kept, Ruled, Delta, Files, End, File, kept, IsByCarrier, files_of}
-use Rattle.cadf_tool.specs.Exchange.{IsReadOf, IsDeltaOf, IsResult, IsDerived, AreRead, IsOfRun, brought, brought_by, log_of, first_log, HoldsAtMost}
 use Rattle.cadf_tool.proofs.OneText.{one_loaded}
 use Rattle.cadf_tool.proofs.KeptInputs.{input_kept}
 use Rattle.cadf_tool.proofs.HeldReplicas.{replica_named}

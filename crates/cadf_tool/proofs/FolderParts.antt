@@ -1,30 +1,9 @@
 -- Parts of sets as files of a folder.
-use Rattle.std.proofs.lemmas.Grind.{flat_map-append}
-use Rattle.std.proofs.Common.{◌≡◌, ◌↔◌, Bool, false, cond, List, [], ◌∷◌, ◌++◌, Option, None, Ok, append-nil, refl, sym, ap, ◌∙◌, subst, inl, inr}
-use Rattle.std.specs.List.{flat_map}
+use Rattle.cadf_tool.proofs.Common.{flat_map-append, ◌≡◌, ◌↔◌, Bool, false, cond, List, [], ◌∷◌, ◌++◌, Option, None, Ok, append-nil, refl, sym, ap, ◌∙◌, subst, inl, inr, flat_map, Text, Texts, Contents, Has, IsWithin, texts_total, texts_same, event_letter, begins_with, is_text, text_of_lines, with_line_feed, digest_line, body_instant, ReplicaModel, Unit, split_head, part_line, part_lines, noted_lines, replica_of_part, split_text, window, window_of, shared_key, key, part, part_keys, key_of_carrier, in_part, part_has, part_key, part-union, key_listed, written_file, Loaded, IsInput, replica_model_of, join_of, Joined, Kept, Delta, Files, End, File, is_in_part, IsByCarrier, IsResult, IsDerived, brought, brought_by, Folder, and_files, all_files, IsFolderOf, HasParts, IsTaken, IsSent, IsExchanged, Begun, Took, Exchanged, arrived, IsFolderAfter, AreFilesAfter}
+use Rattle.cadf_tool.specs.Folders.{History}
 use Rattle.cadf_join.specs.Sets as set
-use Rattle.cadf_join.specs.Contents.{Text, Texts, Contents, Has, IsWithin}
-use Rattle.cadf_join.specs.laws.Contents.{texts_total, texts_same}
 use Rattle.cadf_join.specs.laws.Sets as laws
 use Rattle.cadf_join.proofs.Members as members
-use Rattle.cadf_line.specs.Atoms.{event_letter, begins_with, is_text}
-use Rattle.cadf_linefile.specs.Lines.{text_of_lines, with_line_feed}
-use Rattle.cadf_linefile.specs.Verdict.{digest_line}
-use Rattle.cadf_log.specs.Texts.{body_instant}
-use Rattle.cadf_set.specs.Replica.{ReplicaModel}
-use Rattle.cadf_split.specs.declared.unit.Unit.{Unit}
-use Rattle.cadf_split.specs.Split.{split_head, part_line, part_lines, noted_lines, replica_of_part, split_text}
-use Rattle.cadf_split.specs.Windows.{window, window_of, shared_key, key, part, part_keys}
-use Rattle.cadf_split.proofs.Keys.{key_of_carrier}
-use Rattle.cadf_split.proofs.Parts.{in_part, part_has, part_key, part-union, key_listed}
-use Rattle.cadf_tool.specs.WrittenFile.{written_file}
-use Rattle.cadf_tool.specs.declared.input.Loaded.{Loaded}
-use Rattle.cadf_tool.specs.Input.{IsInput}
-use Rattle.cadf_tool.specs.Told.{replica_model_of}
-use Rattle.cadf_tool.specs.Join.{join_of}
-use Rattle.cadf_tool.specs.Exchange.{Joined, Kept, Delta, Files, End, File, is_in_part, IsByCarrier, IsResult, IsDerived, brought, brought_by}
-use Rattle.cadf_tool.specs.Folders.{Folder, and_files, all_files, IsFolderOf, HasParts, IsTaken, IsSent, IsExchanged}
-use Rattle.cadf_tool.specs.Folders.{History, Begun, Took, Exchanged, arrived, IsFolderAfter, AreFilesAfter}
 use Rattle.cadf_tool.proofs.Unions.{join_one}
 use Rattle.cadf_tool.proofs.InputUnions.{loaded_file}
 use Rattle.cadf_tool.proofs.ExchangeWithin.{result_kept}

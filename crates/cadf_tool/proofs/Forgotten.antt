@@ -1,19 +1,8 @@
 -- Trees of runs of which nothing is left out.
-use Rattle.std.proofs.Common.{◌≡◌, List, [], ◌∷◌, Option, sym, ap, ◌∙◌, subst, inl, inr}
+use Rattle.cadf_tool.proofs.Common.{◌≡◌, List, [], ◌∷◌, Option, sym, ap, ◌∙◌, subst, inl, inr, Listed, Text, Texts, Has, IsWithin, texts_total, texts_same, ARuling, atoms, RulingParts, union_all_append, Unit, key, part_keys, in_part, key_listed, Derivation, Files, File, kept, is_in_part, parts, external_inputs, external_inputs_of, brought_by, IsUnforgotten, AreUnforgotten}
 use Rattle.cadf_join.specs.Sets as set
-use Rattle.cadf_join.specs.Sets.{Listed}
-use Rattle.cadf_join.specs.Contents.{Text, Texts, Has, IsWithin}
-use Rattle.cadf_join.specs.laws.Contents.{texts_total, texts_same}
 use Rattle.cadf_join.specs.laws.Sets as laws
 use Rattle.cadf_join.proofs.Members as members
-use Rattle.cadf_atom.specs.Contributions.{ARuling, atoms}
-use Rattle.cadf_line.specs.RulingTexts.{RulingParts}
-use Rattle.cadf_set.proofs.History.{union_all_append}
-use Rattle.cadf_split.specs.declared.unit.Unit.{Unit}
-use Rattle.cadf_split.specs.Windows.{key, part_keys}
-use Rattle.cadf_split.proofs.Parts.{in_part, key_listed}
-use Rattle.cadf_tool.specs.Exchange.{Derivation, Files, File, kept, is_in_part, parts, external_inputs, external_inputs_of, brought_by}
-use Rattle.cadf_tool.specs.Exchange.{IsUnforgotten, AreUnforgotten}
 use Rattle.cadf_tool.proofs.Brought.{inputs_by, files_of_inputs}
 
 pub ruled_whole : (ruling : RulingParts) (files : Files) → AreUnforgotten files → set.union (brought_by files) (atoms (ARuling ruling))

@@ -1,30 +1,6 @@
 -- The results of `inventory` and `missing-by` for inputs.
-use Rattle.std.proofs.Common.{◌≡◌, ℕ, Bool, true, false, cond, List, Option, None, Some, Result, Ok, Err, refl, sym, ap, ◌∙◌, subst}
+use Rattle.cadf_tool.proofs.Common.{◌≡◌, ℕ, Bool, true, false, cond, List, Option, None, Some, Result, Ok, Err, refl, sym, ap, ◌∙◌, subst, Text, Contents, IsWithin, IsGrounded, IsReplicaSet, Digests, digests_of, unknown, missing_by, NoCollision, ReplicaModel, with_carriers_grounded, with_carriers_least, unknown_has, missing_by_is, digest_of_some, is_name_text, IsReplica, Some-same, IsInventory, inventory-file-tells, Loaded, ToolFault, OtherLog, Replica, log_named, atoms_loaded, is_other, join_of, under_one_log_at, atom_digest, IsDigest, InventoryModel, AreDigests, inventory_model_under, inventory_model_of, missing_by_at, IsInventoryReadOf, line, sha_digest}
 use Rattle.cadf_join.specs.Sets as set
-use Rattle.cadf_join.specs.Contents.{Text, Contents, IsWithin}
-use Rattle.cadf_line.specs.Atoms.{IsGrounded}
-use Rattle.cadf_atom.specs.AtomSets.{IsReplicaSet}
-use Rattle.cadf_line.specs.Missing.{Digests, digests_of, unknown, missing_by, NoCollision}
-use Rattle.cadf_set.specs.Replica.{ReplicaModel}
-use Rattle.cadf_line.proofs.Missing.{with_carriers_grounded, with_carriers_least, unknown_has, missing_by_is, digest_of_some}
-use Rattle.cadf_event.specs.LogName.{is_name_text}
-use Rattle.cadf_file.specs.File.{IsReplica}
-use Rattle.cadf_line.proofs.Lists.{Some-same}
-use Rattle.cadf_inventory.specs.InventoryFile.{IsInventory}
-use Rattle.cadf_inventory.proofs.InventoryVerdictLemmas.{inventory-file-tells}
-use Rattle.cadf_tool.specs.declared.input.Loaded.{Loaded}
-use Rattle.cadf_tool.specs.declared.fault.ToolFault.{ToolFault}
-use Rattle.cadf_tool.specs.declared.fault.ToolFault.TheVariants.{OtherLog}
-use Rattle.cadf_tool.specs.declared.input.Loaded.TheVariants.{Replica}
-use Rattle.cadf_tool.specs.Told.{log_named, atoms_loaded}
-use Rattle.cadf_tool.specs.Join.{is_other, join_of}
-use Rattle.cadf_tool.specs.Missing.{under_one_log_at}
-use Rattle.cadf_line.specs.Digest.{atom_digest, IsDigest}
-use Rattle.cadf_set.specs.Inventory.{InventoryModel, AreDigests}
-use Rattle.cadf_tool.specs.MissingBy.{inventory_model_under, inventory_model_of, missing_by_at}
-use Rattle.cadf_tool.specs.Exchange.{IsInventoryReadOf}
-use Rattle.cadf_line.specs.AtomLine.{line}
-use Rattle.cadf_sketch.proofs.WholeLemmas.{sha_digest}
 use Rattle.cadf_tool.proofs.Unions.{ok_of}
 use Rattle.cadf_tool.proofs.InputUnions.{IsPart, replica_model_under, held_same}
 

@@ -1,32 +1,7 @@
 -- What engines write for derived files.
-use Rattle.std.proofs.Common.{◌≡◌, ◌+◌, ◌-◌, ℕ, List, ◌++◌, take, drop, length, encode_utf8, Option, None, Some, Ok, Err, Result, refl, ap, ◌∙◌, subst}
-use Rattle.std.specs.Io.KnownBytes.{Appends}
-use Rattle.cadf_json.specs.declared.stream.Sink.{Ghosts as Sink}
-use Rattle.cadf_join.specs.Contents.{Text}
-use Rattle.cadf_inventory.specs.InventoryFile.{inventory_file}
-use Rattle.cadf_seal.specs.SealFile.{seal_file}
-use Rattle.cadf_set.specs.Inventory.{InventoryModel}
-use Rattle.cadf_set.specs.Replica.{ReplicaModel}
-use Rattle.cadf_sketch.specs.SketchFile.{sketch_file}
-use Rattle.cadf_tool.specs.declared.input.Loaded.{Loaded}
-use Rattle.cadf_tool.specs.declared.input.Loaded.TheVariants.{Replica}
-use Rattle.cadf_tool.specs.declared.fault.ToolFault.{ToolFault}
-use Rattle.cadf_tool.specs.declared.request.Request.{Request}
+use Rattle.cadf_tool.proofs.Common.{◌≡◌, ◌+◌, ◌-◌, ℕ, List, ◌++◌, take, drop, length, encode_utf8, Option, None, Some, Ok, Err, Result, refl, ap, ◌∙◌, subst, Appends, Sink, Text, inventory_file, seal_file, InventoryModel, ReplicaModel, sketch_file, Loaded, Replica, ToolFault, Request, replica_model_of, SourceState, inventory_spec, sketch_spec, Sources, AreLoaded, IsExpectedOfBy, IsRunBy, task, first_state, IsAnswered, seal_model_of, shown_text, checked_text, AreAsked, sketch_model_of, join_of, on_ok, of_union, inventory_model_of, ruling_on, ruling_for, ruled_of, IsTextOf, Ruled, Files, IsResult, AreRead, IsOutputOf, IsInventoryOf, IsSketchOf, AreSources}
+use Rattle.cadf_tool.specs.Run.{IsAnswer}
 use Rattle.cadf_tool.specs.declared.request.Request.TheVariants as ask
-use Rattle.cadf_tool.specs.Told.{replica_model_of}
-use Rattle.cadf_tool.specs.Inputs.{SourceState}
-use Rattle.cadf_tool.specs.ModelInput.{inventory_spec, sketch_spec}
-use Rattle.cadf_tool.specs.Run.{Sources, AreLoaded, IsExpectedOfBy, IsAnswer, IsRunBy}
-use Rattle.cadf_tool.specs.Request.{task, first_state}
-use Rattle.cadf_tool.specs.Requested.{IsAnswered}
-use Rattle.cadf_tool.specs.Seal.{seal_model_of}
-use Rattle.cadf_tool.specs.Shown.{shown_text, checked_text}
-use Rattle.cadf_tool.specs.Sketch.{AreAsked, sketch_model_of}
-use Rattle.cadf_tool.specs.Join.{join_of, on_ok, of_union}
-use Rattle.cadf_tool.specs.MissingBy.{inventory_model_of}
-use Rattle.cadf_tool.specs.Rule.{ruling_on, ruling_for, ruled_of}
-use Rattle.cadf_tool.specs.TwoTexts.{IsTextOf}
-use Rattle.cadf_tool.specs.Exchange.{Ruled, Files, IsResult, AreRead, IsOutputOf, IsInventoryOf, IsSketchOf, AreSources}
 use Rattle.cadf_tool.proofs.RulingAdded.{ruled_is}
 use Rattle.cadf_tool.proofs.SketchParts.{sketched_is, answer_of}
 use Rattle.cadf_tool.proofs.Unions.{ok_of}

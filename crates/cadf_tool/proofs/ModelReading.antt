@@ -1,15 +1,6 @@
 -- A source that is read as the file of a model.
-use Rattle.std.proofs.Common.{sym, ◌≡◌, Bool, true, false, Option, Some, None, Result, Ok, Err, IfOk, IsErrAnd, MatchResult, refl, ap, ◌∙◌, subst, inl, inr}
-use Rattle.std.specs.Io.KnownBytes.{IsAtEnd}
-use Rattle.cadf_json.specs.Streams.{counted}
-use Rattle.cadf_linefile.specs.declared.fault.FileFault.{FileFault}
-use Rattle.cadf_linefile.specs.declared.file_feed.TheConstants.{FILE_LIMIT}
+use Rattle.cadf_tool.proofs.Common.{sym, ◌≡◌, Bool, true, false, Option, Some, None, Result, Ok, Err, IfOk, IsErrAnd, MatchResult, refl, ap, ◌∙◌, subst, inl, inr, IsAtEnd, counted, FileFault, FILE_LIMIT, ModelKind, grammar_of, model_or_fault, decided_of, verdict_of, AcceptsModels, ReadsModel, ToolFault, model_spec, SourceTransition, IsReadAs}
 use Rattle.cadf_linefile.proofs.ReadingLemmas.{refused_verdict}
-use Rattle.cadf_linefile.specs.ModelKind.{ModelKind, grammar_of, model_or_fault, decided_of, verdict_of, AcceptsModels}
-use Rattle.cadf_linefile.specs.ModelReads.{ReadsModel}
-use Rattle.cadf_tool.specs.declared.fault.ToolFault.{ToolFault}
-use Rattle.cadf_tool.specs.ModelInput.{model_spec}
-use Rattle.cadf_tool.specs.Run.{SourceTransition, IsReadAs}
 
 -- a fault that is decided is the verdict, and the accepted bytes encode the model; the rest is what a reader of such files says
 module _ {M : Type 0} (k : ModelKind M) (Is : M → Type 0) (t : SourceTransition) (accepts : AcceptsModels k Is) (m : M)

@@ -1,13 +1,5 @@
 -- A script that is read and simulated.
-use Rattle.std.proofs.lemmas.Grind.{common_steps}
-use Rattle.std.proofs.Common.{arith, ℕ, List, Result, Ok, Err, refl, ap}
-use Rattle.cadf_join.specs.Contents.{Text}
-use Rattle.cadf_rehearsal.specs.declared.turn.Turn.{Turn as Step}
-use Rattle.cadf_tool.specs.declared.fault.ToolFault.{ToolFault}
-use Rattle.cadf_tool.specs.Faults.{FaultStage, Working, fault_stage}
-use Rattle.cadf_tool.specs.Rehearse.{IsScriptJudged, bytes_spec, script_spec, turns_of, played_in, final_sites}
-use Rattle.cadf_tool.specs.Run.{SourceTransition, one, IsReadAs, IsReadWithin, IsFirstFault, IsExpected}
-use Rattle.cadf_linefile.specs.declared.file_feed.TheConstants.{FILE_LIMIT}
+use Rattle.cadf_tool.proofs.Common.{common_steps, arith, ℕ, List, Result, Ok, Err, refl, ap, Text, Step, ToolFault, FaultStage, Working, fault_stage, IsScriptJudged, bytes_spec, script_spec, turns_of, played_in, final_sites, SourceTransition, one, IsReadAs, IsReadWithin, IsFirstFault, IsExpected, FILE_LIMIT}
 
 -- what was read of a source is a script, if its bytes are
 pub judged : (t : SourceTransition) (v : List ℕ) (script : Result (List Step) ℕ) → IsReadAs bytes_spec t v → IsScriptJudged v script

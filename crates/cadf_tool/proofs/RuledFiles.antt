@@ -1,13 +1,5 @@
 -- The contents of a file that `rule` wrote.
-use Rattle.std.proofs.Common.{◌≡◌, ℕ, Some, Result, Ok, sym, ap, ◌∙◌}
-use Rattle.cadf_atom.specs.AtomSets.{IsReplicaSet}
-use Rattle.cadf_atom.specs.Contributions.{ARuling, taken}
-use Rattle.cadf_set.specs.Replica.{ReplicaModel}
-use Rattle.cadf_line.specs.RulingTexts.{RulingParts}
-use Rattle.cadf_tool.specs.declared.input.Loaded.{Loaded}
-use Rattle.cadf_tool.specs.declared.fault.ToolFault.{ToolFault}
-use Rattle.cadf_tool.specs.Told.{log_named, atoms_loaded}
-use Rattle.cadf_tool.specs.Rule.{ruling_on, ruling_for, ruling_at, ruled_of}
+use Rattle.cadf_tool.proofs.Common.{◌≡◌, ℕ, Some, Result, Ok, sym, ap, ◌∙◌, IsReplicaSet, ARuling, taken, ReplicaModel, RulingParts, Loaded, ToolFault, log_named, atoms_loaded, ruling_on, ruling_for, ruling_at, ruled_of}
 use Rattle.cadf_tool.proofs.RulingAdded.{IsRuled, ruled_is, ruled_kept}
 
 one_ruling : (x y : RulingParts) → ◌≡◌ {A = Result RulingParts ToolFault} (Ok x) (Ok y) → x ≡ y

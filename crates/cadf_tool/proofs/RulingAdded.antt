@@ -1,36 +1,8 @@
 -- A further ruling: the result of `rule` for a set of atoms.
-use Rattle.std.proofs.lemmas.Grind.{common_steps}
-use Rattle.std.proofs.Common.{◌≡◌, ◌≤◌, ◌<◌, ◌-◌, ℕ, zero, suc, Bool, true, false, inl, inr, List, [], ◌∷◌, map, length, get_or, slice_get, String}
-use Rattle.std.proofs.Common.{Global, string_bytes, Option, Some, Result, Ok, Err, refl, sym, ap, ◌∙◌, subst, arith, true≢false}
-use Rattle.std.specs.Prelude.{IsTrue, is_some}
-use Rattle.std.specs.List.{filter, filter_map}
+use Rattle.cadf_tool.proofs.Common.{common_steps, ◌≡◌, ◌≤◌, ◌<◌, ◌-◌, ℕ, zero, suc, Bool, true, false, inl, inr, List, [], ◌∷◌, map, length, get_or, slice_get, String, Global, string_bytes, Option, Some, Result, Ok, Err, refl, sym, ap, ◌∙◌, subst, arith, true≢false, IsTrue, is_some, filter, filter_map, Listed, rising, Text, Texts, Contents, Has, IsWithin, texts_total, texts_same, atom_rules, IsRuling, is_name_text, IsAtom, ruling_letter, IsReplicaSet, ARuling, one_atom, taken, ReplicaModel, ruling_of, RulingParts, ruling_atom, is_value_letter, is_digest_text, value_digest, strip, only, values, in_order_retain, listed_value, kept_union, ruling_kept, Some-same, hex_is_digest, sha256, ToolFault, FaultStage, Working, fault_stage, IsWorkFaultBy, IsWorked, under_log, value_at, ruling_on, ruling_for, ruling_at, with_ruling, ruled_in, sha_digest}
 use Rattle.cadf_join.specs.Sets as set
-use Rattle.cadf_join.specs.Sets.{Listed, rising}
-use Rattle.cadf_join.specs.Contents.{Text, Texts, Contents, Has, IsWithin}
 use Rattle.cadf_join.specs.laws.Sets as laws
-use Rattle.cadf_join.specs.laws.Contents.{texts_total, texts_same}
 use Rattle.cadf_join.proofs.Members as members
-use Rattle.cadf_atom.specs.Atom.{atom_rules, IsRuling}
-use Rattle.cadf_event.specs.LogName.{is_name_text}
-use Rattle.cadf_line.specs.Atoms.{IsAtom, ruling_letter}
-use Rattle.cadf_atom.specs.AtomSets.{IsReplicaSet}
-use Rattle.cadf_atom.specs.Contributions.{ARuling, one_atom, taken}
-use Rattle.cadf_set.specs.Replica.{ReplicaModel}
-use Rattle.cadf_atom.specs.Rulings.{ruling_of}
-use Rattle.cadf_line.specs.RulingTexts.{RulingParts, ruling_atom, is_value_letter, is_digest_text, value_digest}
-use Rattle.cadf_atom.specs.Shown.{strip, only, values}
-use Rattle.cadf_set.proofs.Again.{in_order_retain}
-use Rattle.cadf_set.proofs.Membership.{listed_value}
-use Rattle.cadf_set.proofs.ContributionLaws.{kept_union, ruling_kept}
-use Rattle.cadf_line.proofs.Lists.{Some-same}
-use Rattle.cadf_atom.proofs.RulingTexts.{hex_is_digest}
-use Rattle.sha2.specs.Sha256.{sha256}
-use Rattle.cadf_tool.specs.declared.fault.ToolFault.{ToolFault}
-use Rattle.cadf_tool.specs.Faults.{FaultStage, Working, fault_stage}
-use Rattle.cadf_tool.specs.Run.{IsWorkFaultBy, IsWorked}
-use Rattle.cadf_tool.specs.Told.{under_log}
-use Rattle.cadf_tool.specs.Rule.{value_at, ruling_on, ruling_for, ruling_at, with_ruling, ruled_in}
-use Rattle.cadf_sketch.proofs.WholeLemmas.{sha_digest}
 
 -- ---- the value at a place
 

@@ -1,17 +1,7 @@
 -- The parts of a run, combined.
-use Rattle.std.proofs.Common.{◌≡◌, ℕ, List, map, Result, Ok, Err, IfOk, IfErr, IsErrAnd, refl, sym, ap, ◌∙◌, subst, inl, inr}
-use Rattle.std.proofs.lemmas.Result.{err_from_is_err_and}
-use Rattle.cadf_json.specs.declared.stream.Sink.{Ghosts as Sink}
-use Rattle.cadf_json.specs.declared.stream.Source.{Ghosts as Source}
-use Rattle.cadf_join.specs.Contents.{Text}
-use Rattle.cadf_tool.specs.declared.input.Loaded.{Loaded}
-use Rattle.cadf_tool.specs.declared.fault.ToolFault.{ToolFault}
+use Rattle.cadf_tool.proofs.Common.{◌≡◌, ℕ, List, map, Result, Ok, Err, IfOk, IfErr, IsErrAnd, refl, sym, ap, ◌∙◌, subst, inl, inr, err_from_is_err_and, Sink, Source, Text, Loaded, ToolFault, FaultStage, Reading, Working, Writing, OutOfMemoryStage, fault_stage, source_state, AreReadWithin, IsOnOk, SourceTransition, InputSpec, Sources, with_number, both, all_from, AreLoaded, IsReadAs, IsReadWithin, IsFirstFault, IsFirstFaultBy, IsUnread, IsExpectedBy, IsWorkFaultBy, IsWorkedBy, IsRunBy}
 use Rattle.cadf_tool.specs.declared.fault.ToolFault.TheVariants.{Memory}
-use Rattle.cadf_tool.specs.Faults.{FaultStage, Reading, Working, Writing, OutOfMemoryStage, fault_stage}
-use Rattle.cadf_tool.specs.Inputs.{source_state, AreReadWithin}
-use Rattle.cadf_tool.specs.JoinState.{IsOnOk}
-use Rattle.cadf_tool.specs.Run.{SourceTransition, InputSpec, Sources, with_number, both, all_from, AreLoaded, IsReadAs, IsReadWithin, IsFirstFault}
-use Rattle.cadf_tool.specs.Run.{IsFirstFaultBy, IsUnread, IsExpectedBy, IsWorkFaultBy, IsWorkedBy, IsAnswer, IsRunBy}
+use Rattle.cadf_tool.specs.Run.{IsAnswer}
 use Rattle.cadf_tool.proofs.LoadedLists.{none_failed, reads_first}
 
 -- ---- what was read

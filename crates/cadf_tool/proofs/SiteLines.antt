@@ -1,15 +1,6 @@
 -- The lines that describe each site.
-use Rattle.std.proofs.lemmas.Grind.{common_steps}
-use Rattle.std.proofs.Common.{arith, ◌≡◌, Bool, true, refl}
-use Rattle.std.specs.Prelude.{◌&&◌, ◌↔◌, IsTrue}
-use Rattle.cadf_join.specs.Contents.{Contents}
+use Rattle.cadf_tool.proofs.Common.{common_steps, arith, ◌≡◌, Bool, true, refl, ◌&&◌, ◌↔◌, IsTrue, Contents, subset-from_IsWithin, IsWithin-from_subset, texts_total, contents_same, is_text, ReplicaModel, bytes_decides, is_same}
 use Rattle.cadf_join.specs.Sets as set
-use Rattle.cadf_join.specs.laws.Sets.{subset-from_IsWithin, IsWithin-from_subset}
-use Rattle.cadf_join.specs.laws.Contents.{texts_total, contents_same}
-use Rattle.cadf_line.specs.Atoms.{is_text}
-use Rattle.cadf_set.specs.Replica.{ReplicaModel}
-use Rattle.std.specs.Cmp.Lexicographic.{bytes_decides}
-use Rattle.cadf_tool.specs.Sites.{is_same}
 
 all_three : (a b c : Bool) → (a && (b && c)) ≡ true → (a ≡ true) × (b ≡ true) × (c ≡ true)
 all_three a b c e = grind (arith, common_steps)

@@ -1,26 +1,5 @@
 -- The results of `sketch` and `missing-by-sketch` for inputs.
-use Rattle.std.proofs.lemmas.Grind.{common_steps}
-use Rattle.std.proofs.Common.{arith, ◌≡◌, ℕ, List, Option, None, Some, IfSome, unwrap_or, Result, Ok, Err, true, refl, sym, ap, ◌∙◌, subst}
-use Rattle.cadf_join.specs.Contents.{Text, Contents}
-use Rattle.cadf_set.specs.Inventory.{InventoryModel}
-use Rattle.cadf_set.specs.Replica.{ReplicaModel}
-use Rattle.cadf_inventory.specs.InventoryFile.{IsInventory, inventory_digest, DoNotCollide}
-use Rattle.cadf_sketch.specs.Layouts.{LayoutModel, are_cells, default_cells, layout_with}
-use Rattle.cadf_sketch.specs.Sketches.{SketchModel, sketch_of, own_salt, asked}
-use Rattle.cadf_sketch.proofs.AskedLemmas.{asked_is}
-use Rattle.cadf_sketch.proofs.DigestLemmas.{same_inventory}
-use Rattle.cadf_sketch.proofs.SketchFileLemmas.{sketch-file-tells}
-use Rattle.cadf_sketch.specs.Answers.{IsAnswer}
-use Rattle.cadf_file.specs.File.{IsReplica}
-use Rattle.cadf_line.proofs.Lists.{Some-same}
-use Rattle.cadf_tool.specs.declared.input.Loaded.{Loaded}
-use Rattle.cadf_tool.specs.declared.input.Loaded.TheVariants.{Replica}
-use Rattle.cadf_tool.specs.declared.fault.ToolFault.{ToolFault}
-use Rattle.cadf_tool.specs.Exchange.{IsSketchReadOf}
-use Rattle.cadf_tool.specs.MissingBy.{inventory_model_of}
-use Rattle.cadf_tool.specs.Join.{join_of}
-use Rattle.cadf_tool.specs.Told.{under_log}
-use Rattle.cadf_tool.specs.Sketch.{sketch_of_result, sketch_model_of, IsAnswerOfResult}
+use Rattle.cadf_tool.proofs.Common.{common_steps, arith, ◌≡◌, ℕ, List, Option, None, Some, IfSome, unwrap_or, Result, Ok, Err, true, refl, sym, ap, ◌∙◌, subst, Text, Contents, InventoryModel, ReplicaModel, IsInventory, inventory_digest, DoNotCollide, LayoutModel, are_cells, default_cells, layout_with, SketchModel, sketch_of, own_salt, asked, asked_is, same_inventory, sketch-file-tells, IsAnswer, IsReplica, Some-same, Loaded, Replica, ToolFault, IsSketchReadOf, inventory_model_of, join_of, under_log, sketch_of_result, sketch_model_of, IsAnswerOfResult}
 use Rattle.cadf_tool.proofs.InventoryParts.{Notes, notes, notes_inventory, IsPartBy}
 use Rattle.cadf_tool.proofs.Unions.{ok_of}
 

@@ -1,18 +1,5 @@
 -- Runs on the parts of a list of sources.
-use Rattle.std.proofs.Common.{◌≡◌, ◌+◌, ◌-◌, ℕ, List, [], ◌∷◌, ◌++◌, length, map, take, drop, get_or, set, Result, refl, ap, sym, subst, arith}
-use Rattle.std.proofs.lemmas.List.{length-append, length-map}
-use Rattle.cadf_json.specs.declared.stream.Sink.{Ghosts as Sink}
-use Rattle.cadf_json.specs.declared.stream.Source.{Ghosts as Source}
-use Rattle.cadf_join.specs.Contents.{Text}
-use Rattle.cadf_seal.specs.ProofFile.{ProofModel}
-use Rattle.cadf_seal.specs.SealFile.{SealModel}
-use Rattle.cadf_tool.specs.declared.input.Loaded.{Loaded}
-use Rattle.cadf_tool.specs.declared.fault.ToolFault.{ToolFault}
-use Rattle.cadf_tool.specs.declared.request.Request.{Request}
-use Rattle.cadf_tool.specs.Inputs.{SourceState}
-use Rattle.cadf_tool.specs.ModelInput.{seal_spec, proof_spec}
-use Rattle.cadf_tool.specs.Request.{first_state, in_two, and_one, and_last, one_and_others, seal_facts_proof, IsRequestRun}
-use Rattle.cadf_tool.specs.Run.{InputSpec, input_spec, with_number, one, both, inputs_from, IsRunBy}
+use Rattle.cadf_tool.proofs.Common.{◌≡◌, ◌+◌, ◌-◌, ℕ, List, [], ◌∷◌, ◌++◌, length, map, take, drop, get_or, set, Result, refl, ap, sym, subst, arith, length-append, length-map, Sink, Source, Text, ProofModel, SealModel, Loaded, ToolFault, Request, SourceState, seal_spec, proof_spec, first_state, in_two, and_one, and_last, one_and_others, seal_facts_proof, IsRequestRun, InputSpec, input_spec, with_number, one, both, inputs_from, IsRunBy}
 
 module _ {S : Type 0} (see : S → SourceState) where
   fronts : (a b : List S) → take (length a) (map see (a ++ b)) ≡ map see a

@@ -1,30 +1,8 @@
 -- Deltas between unions of inputs, and of one input each.
-use Rattle.std.proofs.lemmas.Grind.{common_steps}
-use Rattle.std.proofs.Common.{◌≡◌, ◌+◌, ℕ, Bool, true, false, cond, List, [], ◌∷◌, length, Option, None, Some, Result, Ok, Err, refl, sym, ap, ◌∙◌}
-use Rattle.std.proofs.Common.{subst, arith}
-use Rattle.std.specs.Option.{is_some, option_or}
-use Rattle.cadf_join.specs.Contents.{Text, Contents}
-use Rattle.cadf_join.specs.laws.Contents.{texts_total, texts_same}
+use Rattle.cadf_tool.proofs.Common.{common_steps, ◌≡◌, ◌+◌, ℕ, Bool, true, false, cond, List, [], ◌∷◌, length, Option, None, Some, Result, Ok, Err, refl, sym, ap, ◌∙◌, subst, arith, option_or, Text, Contents, texts_total, texts_same, atom_digest, missing, missing_by, InventoryModel, ReplicaModel, SketchModel, Loaded, Replica, ToolFault, NoLog, OtherLog, JoinState, Unnamed, Other, FaultStage, Working, fault_stage, first_named, is_other, union_of, unless_other, join_in, join_from, join_of, on_ok, IsJoinState, log_joined, IsOnOk, under_one_log_at, missing_of, delta_between, if_named, part_of_unions, missing_by_at, part_by, part_by_union, IsWorkFaultBy, IsWorked, IsWorkedBy, IsAnswerOfResult, IsAnswerTo, IsPartOfUnionBySketch, log_named, atoms_loaded, under_log}
+use Rattle.std.specs.Option.{is_some}
+use Rattle.cadf_tool.specs.declared.join_state.JoinState.TheVariants.{Joined}
 use Rattle.cadf_join.specs.laws.Sets as sets
-use Rattle.cadf_line.specs.Digest.{atom_digest}
-use Rattle.cadf_line.specs.Missing.{missing, missing_by}
-use Rattle.cadf_set.specs.Inventory.{InventoryModel}
-use Rattle.cadf_set.specs.Replica.{ReplicaModel}
-use Rattle.cadf_sketch.specs.Sketches.{SketchModel}
-use Rattle.cadf_tool.specs.declared.input.Loaded.{Loaded}
-use Rattle.cadf_tool.specs.declared.input.Loaded.TheVariants.{Replica}
-use Rattle.cadf_tool.specs.declared.fault.ToolFault.{ToolFault}
-use Rattle.cadf_tool.specs.declared.fault.ToolFault.TheVariants.{NoLog, OtherLog}
-use Rattle.cadf_tool.specs.declared.join_state.JoinState.{JoinState}
-use Rattle.cadf_tool.specs.declared.join_state.JoinState.TheVariants.{Unnamed, Joined, Other}
-use Rattle.cadf_tool.specs.Faults.{FaultStage, Working, fault_stage}
-use Rattle.cadf_tool.specs.Join.{first_named, is_other, union_of, unless_other, join_in, join_from, join_of, on_ok}
-use Rattle.cadf_tool.specs.JoinState.{IsJoinState, log_joined, IsOnOk}
-use Rattle.cadf_tool.specs.Missing.{under_one_log_at, missing_of, delta_between, if_named, part_of_unions}
-use Rattle.cadf_tool.specs.MissingBy.{missing_by_at, part_by, part_by_union}
-use Rattle.cadf_tool.specs.Run.{IsWorkFaultBy, IsWorked, IsWorkedBy}
-use Rattle.cadf_tool.specs.Sketch.{IsAnswerOfResult, IsAnswerTo, IsPartOfUnionBySketch}
-use Rattle.cadf_tool.specs.Told.{log_named, atoms_loaded, under_log}
 use Rattle.cadf_tool.proofs.Unions.{on_value, on_fault, join_one}
 use Rattle.cadf_tool.proofs.UnitingLemmas.{not_other}
 

@@ -1,21 +1,6 @@
 -- Engines over the union of several inputs: their work on the union, and one input in place of several.
-use Rattle.std.proofs.Common.{◌≡◌, ℕ, cond, List, [], ◌∷◌, ◌+◌, length, arith, Option, None, Some, Result, Ok, Err, refl, sym, ap, ◌∙◌, subst}
-use Rattle.std.specs.Option.{option_or}
-use Rattle.cadf_json.specs.declared.stream.Source.{Ghosts as Source}
-use Rattle.cadf_json.specs.declared.stream.Sink.{Ghosts as Sink}
-use Rattle.cadf_join.specs.Contents.{Text}
-use Rattle.cadf_join.specs.laws.Contents.{texts_total, texts_same}
+use Rattle.cadf_tool.proofs.Common.{◌≡◌, ℕ, cond, List, [], ◌∷◌, ◌+◌, length, arith, Option, None, Some, Result, Ok, Err, refl, sym, ap, ◌∙◌, subst, option_or, Source, Sink, Text, texts_total, texts_same, ReplicaModel, Loaded, Replica, ToolFault, FaultStage, Working, fault_stage, is_other, join_in, join_from, join_of, on_ok, of_union, SourceTransition, Sources, one, all, input_spec, IsValueOf, IsFirstFaultBy, IsExpected, IsWorkFaultBy, IsWorked, IsToldBy, IsRun, log_named, atoms_loaded, under_log, replica_model_of, IsOfReplica}
 use Rattle.cadf_join.specs.laws.Sets as sets
-use Rattle.cadf_set.specs.Replica.{ReplicaModel}
-use Rattle.cadf_tool.specs.declared.input.Loaded.{Loaded}
-use Rattle.cadf_tool.specs.declared.input.Loaded.TheVariants.{Replica}
-use Rattle.cadf_tool.specs.declared.fault.ToolFault.{ToolFault}
-use Rattle.cadf_tool.specs.Faults.{FaultStage, Working, fault_stage}
-use Rattle.cadf_tool.specs.Join.{is_other, join_in, join_from, join_of, on_ok, of_union}
-use Rattle.cadf_tool.specs.Run.{SourceTransition, Sources, one, all, input_spec, IsValueOf, IsFirstFaultBy, IsExpected, IsWorkFaultBy, IsWorked}
-use Rattle.cadf_tool.specs.Run.{IsToldBy, IsRun}
-use Rattle.cadf_tool.specs.Told.{log_named, atoms_loaded, under_log, replica_model_of}
-use Rattle.cadf_tool.specs.laws.Engines.{IsOfReplica}
 use Rattle.cadf_tool.proofs.LoadedLists.{none_failed}
 use Rattle.cadf_tool.proofs.Runs.{worked_run}
 use Rattle.cadf_tool.proofs.UnitingLemmas.{is_united, not_other}

@@ -1,23 +1,6 @@
 -- Words at which nothing is wrong name a command.
-use Rattle.std.proofs.Common.{◌≡◌, ◌∙◌, sym, ap, ap₂, refl, subst, ℕ, Bool, true, false, ◌&&◌, ◌||◌, not, cond, true≢false, List, [], ◌∷◌, ◌++◌, map, Option}
-use Rattle.std.proofs.Common.{Some, None, is_some, option_map, codes}
-use Rattle.std.specs.List.{find, fold, list_all, list_any}
-use Rattle.std.specs.Option.{option_map_or}
-use Rattle.std.specs.Str.{bytes_eq}
-use Rattle.clap.specs.Lexer.{long_of, short_of}
-use Rattle.clap.specs.Walk.{Held, Names, Outcome, Row, Rule, Step, Text, Waiting, Walk, done, waits, plain, refused, idle, option, positional, next, trailing}
-use Rattle.clap.specs.Walk.{subcommand, value}
-use Rattle.clap.specs.Walk.{after_flag, after_step, arg_by_index, long_or_other, plain_word, short_or_plain, subcommand_met, subcommand_or_other}
-use Rattle.clap.specs.Walk.{to_positional, walk, walk_from, walked, walked_from, word_met, nothing_held, answers_to, stop_after, finished, settled}
-use Rattle.clap.specs.Facts.{explicit_source}
-use Rattle.clap.specs.Takes.{is_given}
-use Rattle.clap.specs.Simple.{App, Shape, entered, label_of, names_of, rows_at}
-use Rattle.clap.specs.declared.error.kind.ErrorKind.{ErrorKind}
-use Rattle.clap.specs.declared.error.kind.ErrorKind.TheVariants.{DisplayHelp, InvalidSubcommand}
-use Rattle.clap.specs.Kinds.{Kinds, check_kinds, or_else}
-use Rattle.clap.specs.Faults.{built_fault, check_fault, defaults_fault, entered_fault, settle_fault, other_fault, turn_fault, walk_fault, word_fault}
-use Rattle.std.proofs.lemmas.Slice.Eq.{bytes_eq-Decides}
-use Rattle.clap.proofs.WalkLemmas.{list_any-map}
+use Rattle.cadf_words.proofs.Common.{◌≡◌, ◌∙◌, sym, ap, ap₂, refl, subst, ℕ, Bool, true, false, ◌&&◌, ◌||◌, not, cond, true≢false, List, [], ◌∷◌, ◌++◌, map, Option, Some, None, is_some, option_map, codes, find, fold, list_all, list_any, option_map_or, bytes_eq, long_of, short_of, Held, Outcome, Row, Rule, Step, Text, Waiting, Walk, done, waits, plain, refused, idle, option, positional, next, trailing, subcommand, value, after_flag, after_step, arg_by_index, long_or_other, plain_word, short_or_plain, subcommand_met, subcommand_or_other, to_positional, walk, walk_from, walked, walked_from, word_met, nothing_held, answers_to, stop_after, finished, settled, explicit_source, is_given, App, Shape, entered, label_of, names_of, rows_at, ErrorKind, DisplayHelp, InvalidSubcommand, Kinds, check_kinds, or_else, built_fault, check_fault, defaults_fault, entered_fault, settle_fault, other_fault, turn_fault, walk_fault, word_fault, bytes_eq-Decides, list_any-map}
+use Rattle.clap.specs.Walk.{Names}
 
 -- ---- lists of faults
 

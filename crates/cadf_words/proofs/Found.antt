@@ -1,29 +1,5 @@
 -- From what clap found to the request, for this command line.
-use Rattle.std.proofs.Common.{◌≡◌, ◌∙◌, sym, ap, ap₂, refl, subst, Bool, true, false, ◌&&◌, ◌⊎◌, inl, inr, Result, Ok, Err, IfOk, MatchResult, true≢false}
-use Rattle.std.proofs.Common.{List, [], ◌∷◌, ◌++◌, map, Option, Some, None, is_some, option_map, codes}
-use Rattle.std.specs.List.{list_all}
-use Rattle.std.specs.Prelude.{Box, IsErrAnd, IsSomeAnd}
-use Rattle.std.specs.Box.{box_value}
-use Rattle.clap.specs.Walk.{Row, Text}
-use Rattle.clap.specs.Simple.{App, Shape, argument_words, built, HasMatchesOf, subcommand_of, subcommand_rows}
-use Rattle.clap.specs.Faults.{fault_of, is_simple_and_free}
-use Rattle.clap.specs.declared.parser.matches.ArgMatches.TheViews.{out-ArgMatches, out-SubCommand}
-use Rattle.clap.specs.declared.parser.matches.SubCommand.{SubCommand}
-use Rattle.clap.specs.Matches.{found_of, has_subcommand, subcommand_name_of}
-use Rattle.clap.specs.Values.{kind_of}
-use Rattle.clap.specs.Kinds.{FailsBy}
-use Rattle.clap.specs.declared.error.Error.{Error}
-use Rattle.clap.specs.declared.error.kind.ErrorKind.TheVariants.{OutOfMemory}
-use Rattle.clap.specs.declared.parser.matches.ArgMatches.{ArgMatches}
-use Rattle.clap.specs.declared.builder.value_parser.ValueParser.{ValueParser}
-use Rattle.clap.specs.declared.builder.value_parser.ValueParser.TheVariants.{Names}
-use Rattle.cadf_words.specs.declared.request.Request.{Request}
-use Rattle.cadf_words.specs.declared.reply.Reply.{Reply}
-use Rattle.cadf_words.specs.declared.reply.Reply.TheVariants.{Memory, Help, Refused}
-use Rattle.clap.specs.Walk.{rows_of}
-use Rattle.clap.proofs.OnLiterals.{clap_on_literals}
-use Rattle.cadf_words.specs.Synopsis.{AnswersError, HasKindOf, IsAsked, IsCommandLine, IsTold, MakesRequest, command_line, is_shown}
-use Rattle.cadf_words.specs.Table.{AreMatches, command_names, is_among}
+use Rattle.cadf_words.proofs.Common.{◌≡◌, ◌∙◌, sym, ap, ap₂, refl, subst, Bool, true, false, ◌&&◌, ◌⊎◌, inl, inr, Result, Ok, Err, IfOk, MatchResult, true≢false, List, [], ◌∷◌, ◌++◌, map, Option, Some, None, is_some, option_map, codes, list_all, Box, IsErrAnd, IsSomeAnd, box_value, Row, Text, App, Shape, argument_words, built, HasMatchesOf, subcommand_of, subcommand_rows, fault_of, is_simple_and_free, out-ArgMatches, out-SubCommand, SubCommand, found_of, has_subcommand, subcommand_name_of, kind_of, FailsBy, Error, OutOfMemory, ArgMatches, ValueParser, Names, Request, Reply, Memory, Help, Refused, rows_of, clap_on_literals, AnswersError, HasKindOf, IsAsked, IsCommandLine, IsTold, MakesRequest, command_line, is_shown, AreMatches, command_names, is_among}
 use Rattle.cadf_words.proofs.Entered.{is_entered, is_nil, named_other}
 
 -- clap says exactly what it makes of the words of this command line

@@ -1,8 +1,5 @@
 -- What the getters make of the rows.
-use Rattle.std.proofs.Common.{◌≡◌, ◌∙◌, ap, List, [], map, Option, Some, None, option_map}
-use Rattle.std.specs.Option.{UnwrapsOrElse, unwrap_or}
-use Rattle.std.specs.Borrow.{Bor}
-use Rattle.clap.specs.Walk.{Text, texts}
+use Rattle.cadf_words.proofs.Common.{◌≡◌, ◌∙◌, ap, List, [], map, Option, Some, None, option_map, UnwrapsOrElse, unwrap_or, Bor, Text, texts}
 
 pub text_or_none : (o : Option (Bor Text)) (r : Bor Text) (found : Option Text) → UnwrapsOrElse o (λ x. x.now ≡ []) r
     → option_map (λ s. s.now) o ≡ found → r.now ≡ unwrap_or found []

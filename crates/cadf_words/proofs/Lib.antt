@@ -1,4 +1,5 @@
-pub mod Rows
+pub mod Common
 pub mod Entered
 pub mod Found
 pub mod Getters
+pub mod Rows

@@ -1,15 +1,5 @@
 -- What the loops over the table make of it.
-use Rattle.std.proofs.Common.{◌≡◌, ◌∙◌, ◌≤◌, sym, ap, ℕ, true, codes, length, take, List, [], ◌∷◌, ◌++◌, map, append-nil, append_assoc}
-use Rattle.std.specs.List.{fold}
-use Rattle.std.proofs.lemmas.List.{take_all}
-use Rattle.std.specs.Borrow.{Bor}
-use Rattle.clap.specs.Walk.{Rule, Text, texts}
-use Rattle.clap.specs.declared.builder.value_parser.ValueParser.{ValueParser}
-use Rattle.clap.specs.declared.builder.value_parser.ValueParser.TheVariants.{Names}
-use Rattle.clap.specs.Simple.{App, Shape, new_app, on_top, with_rule, with_subcommand}
-use Rattle.cadf_words.specs.Synopsis.{IsCommandLine, command_line, unit_names, rule_of_word, shape_of_command}
-use Rattle.cadf_words.specs.Table.{command_of, word_of}
-use Rattle.cadf_words.specs.declared.table.Kind.{Kind}
+use Rattle.cadf_words.proofs.Common.{◌≡◌, ◌∙◌, ◌≤◌, sym, ap, ℕ, true, codes, length, take, List, [], ◌∷◌, ◌++◌, map, append-nil, append_assoc, fold, take_all, Bor, Rule, Text, texts, ValueParser, Names, App, Shape, new_app, on_top, with_rule, with_subcommand, IsCommandLine, command_line, unit_names, rule_of_word, shape_of_command, command_of, word_of, Kind}
 
 abbrev pub TableWord : Type 0
 TableWord = Bor Text × Kind × Bor Text

@@ -1,8 +1,5 @@
-use Rattle.std.proofs.Common.{inl, refl, rules, sym, subst, ◌∷◌, Ok, w32}
-use Rattle.std.proofs.lemmas.Int.{to_z-of_z}
+use Rattle.cadf_c.proofs.Common.{inl, refl, rules, sym, subst, ◌∷◌, Ok, w32, to_z-of_z, bytes_in, IsCall}
 use Rattle.cadf_tool.specs.declared.request.Request.TheVariants as ask
-use Rattle.cadf_memory.specs.Memory.{bytes_in}
-use Rattle.cadf_c.specs.Statuses.{IsCall}
 use Rattle.cadf_c.proofs.cadf_prove.Goals as goal
 
 pub returns-in-Err : goal.returns-in-Err

@@ -1,4 +1,4 @@
-use Rattle.std.proofs.Common.{rules, sym, ◌∙◌}
+use Rattle.cadf.proofs.Common.{rules, sym, ◌∙◌}
 use Rattle.cadf.proofs.Words.{not_plain, number_parsed}
 use Rattle.cadf.proofs.given.number_given.Goals as goal
 

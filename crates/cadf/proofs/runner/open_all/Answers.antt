@@ -1,7 +1,4 @@
-use Rattle.std.proofs.Common.{map, ap, ◌∙◌, arith}
-use Rattle.std.proofs.lemmas.List.{map-append, length-map}
-use Rattle.std.proofs.lemmas.Result.{err_from_is_err_and}
-use Rattle.cadf_tool.specs.Inputs.{source_state}
+use Rattle.cadf.proofs.Common.{map, ap, ◌∙◌, arith, map-append, length-map, err_from_is_err_and, source_state}
 use Rattle.cadf.proofs.Opening.{one_more, not_opened, no_memory}
 use Rattle.cadf.proofs.runner.open_all.Goals as goal
 

@@ -1,7 +1,4 @@
-use Rattle.std.proofs.Common.{map, take}
-use Rattle.cadf_tool.specs.Inputs.{source_state}
-use Rattle.cadf.specs.Asked.{texts}
-use Rattle.cadf.specs.Opened.{AreOpened}
+use Rattle.cadf.proofs.Common.{map, take, source_state, texts, AreOpened}
 use Rattle.cadf.proofs.runner.open_all.Given as goal
 
 -- the files before the index are opened

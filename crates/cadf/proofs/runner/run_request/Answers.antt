@@ -1,4 +1,4 @@
-use Rattle.std.proofs.Common.{inr}
+use Rattle.cadf.proofs.Common.{inr}
 use Rattle.cadf.proofs.Opening.{told}
 use Rattle.cadf.proofs.runner.run_request.Goals as goal
 

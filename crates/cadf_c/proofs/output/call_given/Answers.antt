@@ -1,8 +1,4 @@
-use Rattle.std.proofs.Common.{rules, sym, subst, w32}
-use Rattle.std.proofs.lemmas.Int.{to_z-of_z}
-use Rattle.cadf_memory.specs.Memory.{bytes_in}
-use Rattle.cadf_c.specs.Arguments.{IsAsked}
-use Rattle.cadf_c.specs.Statuses.{IsCall}
+use Rattle.cadf_c.proofs.Common.{rules, sym, subst, w32, to_z-of_z, bytes_in, IsAsked, IsCall}
 use Rattle.cadf_c.proofs.output.call_given.Goals as goal
 
 pub returns-in-Err : goal.returns-in-Err

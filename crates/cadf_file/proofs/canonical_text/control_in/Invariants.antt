@@ -1,5 +1,4 @@
-use Rattle.std.proofs.Common.{◌≢◌, ℕ, ◌-◌, ◌<◌, List, ◌++◌}
-use Rattle.json.specs.Print.{escape_byte}
+use Rattle.cadf_file.proofs.Common.{◌≢◌, ℕ, ◌-◌, ◌<◌, List, ◌++◌, escape_byte}
 use Rattle.cadf_file.proofs.canonical_text.control_in.Given as goal
 
 abbrev pub invariant-loop-control : goal.invariant-loop-control

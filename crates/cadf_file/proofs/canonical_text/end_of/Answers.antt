@@ -1,6 +1,4 @@
-use Rattle.std.proofs.Common.{true≢false, sym, ◌∙◌}
-use Rattle.std.proofs.lemmas.Bool.Decides.{Decides-eqb}
-use Rattle.std.proofs.lemmas.Slice.Eq.{starts_is}
+use Rattle.cadf_file.proofs.Common.{true≢false, sym, ◌∙◌, Decides-eqb, starts_is}
 use Rattle.cadf_file.proofs.canonical_text.end_of.Goals as goal
 
 pub returns-else-starts_with-clause-same : goal.returns-else-starts_with-clause-same

@@ -1,5 +1,4 @@
-use Rattle.std.proofs.lemmas.Grind.{common_steps}
-use Rattle.std.proofs.Common.{arith}
+use Rattle.cadf_file.proofs.Common.{common_steps, arith}
 use Rattle.cadf_file.proofs.CanonicalTexts.{short_escape, long_escape}
 use Rattle.cadf_file.proofs.canonical_text.escape_in.Goals as goal
 

@@ -1,5 +1,4 @@
-use Rattle.std.proofs.Common.{Some, None, arith}
-use Rattle.std.proofs.lemmas.Str.Pattern.{strip_prefix_char}
+use Rattle.cadf_file.proofs.Common.{Some, None, arith, strip_prefix_char}
 use Rattle.cadf_file.proofs.CanonicalTexts.{quoted_text}
 use Rattle.cadf_file.proofs.canonical_text.read_quoted.Goals as goal
 

@@ -1,5 +1,4 @@
-use Rattle.std.proofs.Common.{string_bytes, arith}
-use Rattle.std.proofs.lemmas.Str.Pattern.{strip_prefix_char}
+use Rattle.cadf_file.proofs.Common.{string_bytes, arith, strip_prefix_char}
 use Rattle.cadf_file.proofs.CanonicalTexts.{ended}
 use Rattle.cadf_file.proofs.canonical_text.read_to_mark.Goals as goal
 

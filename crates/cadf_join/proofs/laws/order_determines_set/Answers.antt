@@ -1,5 +1,4 @@
-use Rattle.cadf_join.specs.laws.Rising.{from_list-rising, rising-from_list, rising_is_sorted, same_rising}
-use Rattle.cadf_join.specs.laws.Contents.{texts_total, texts_same}
+use Rattle.cadf_join.proofs.Common.{from_list-rising, rising-from_list, rising_is_sorted, same_rising, texts_total, texts_same}
 use Rattle.cadf_join.proofs.laws.order_determines_set.Goals as goal
 
 pub returns : goal.returns

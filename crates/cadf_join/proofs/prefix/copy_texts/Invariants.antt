@@ -1,5 +1,4 @@
-use Rattle.std.proofs.Common.{◌≡◌, ◌++◌, drop}
-use Rattle.cadf_join.specs.Prefixes.{chain_texts}
+use Rattle.cadf_join.proofs.Common.{◌≡◌, ◌++◌, drop, chain_texts}
 use Rattle.cadf_join.proofs.prefix.copy_texts.Given as goal
 
 abbrev pub invariant-loop-text : goal.invariant-loop-text

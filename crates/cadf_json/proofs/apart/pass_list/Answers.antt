@@ -1,8 +1,4 @@
-use Rattle.std.proofs.lemmas.Grind.{common_steps}
-use Rattle.std.proofs.Common.{◌≡◌, ◌-◌, ◌<◌, length, None, arith}
-use Rattle.json.specs.Json.{value, after_end_array}
-use Rattle.json.proofs.Grammar.{value-begin_array}
-use Rattle.cadf_json.specs.TokenUtf8.{HaveUtf8}
+use Rattle.cadf_json.proofs.Common.{common_steps, ◌≡◌, ◌-◌, ◌<◌, length, None, arith, value, after_end_array, value-begin_array, HaveUtf8}
 use Rattle.cadf_json.proofs.Passing.{passing_start, passing_more, passing_over}
 use Rattle.cadf_json.proofs.ReadValues.{rest_utf8}
 use Rattle.cadf_json.proofs.Texts.{has_float-IsWhole}

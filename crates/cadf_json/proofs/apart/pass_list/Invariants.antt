@@ -1,6 +1,4 @@
-use Rattle.std.proofs.Common.{◌-◌, length}
-use Rattle.json.specs.Json.{value}
-use Rattle.cadf_json.specs.TokenUtf8.{HaveUtf8}
+use Rattle.cadf_json.proofs.Common.{◌-◌, length, value, HaveUtf8}
 use Rattle.cadf_json.proofs.Passing.{Passing}
 use Rattle.cadf_json.proofs.apart.pass_list.Given as goal
 

@@ -1,10 +1,4 @@
-use Rattle.std.proofs.lemmas.Grind.{common_steps}
-use Rattle.std.proofs.Common.{◌≡◌, ◌<◌, ◌+◌, ◌∷◌, [], length, set, true, false, ◌&&◌, Some, None, option_map, bytes_eq, refl, sym, ap, ◌∙◌, subst}
-use Rattle.std.proofs.Common.{arith, rules, append-nil}
-use Rattle.json.specs.Json.{value, read_key}
-use Rattle.json.proofs.Grammar.{read_key-shorter}
-use Rattle.serde_json.specs.Data.{array, no_items}
-use Rattle.cadf_json.specs.Reading.{Grown, StandsAsRead, is_name_above}
+use Rattle.cadf_json.proofs.Common.{common_steps, ◌≡◌, ◌<◌, ◌+◌, ◌∷◌, [], length, set, true, false, ◌&&◌, Some, None, option_map, bytes_eq, refl, sym, ap, ◌∙◌, subst, arith, rules, append-nil, value, read_key, read_key-shorter, array, no_items, Grown, StandsAsRead, is_name_above}
 use Rattle.cadf_json.proofs.Settling.{scalar}
 use Rattle.cadf_json.proofs.ReadValues.{rest_utf8, key_utf8}
 use Rattle.cadf_json.proofs.TakenApart.{Apart, apart_start, apart_other, apart_list, apart_over}

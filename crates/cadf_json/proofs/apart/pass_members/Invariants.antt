@@ -1,6 +1,4 @@
-use Rattle.std.proofs.Common.{◌≡◌, length, option_map}
-use Rattle.json.specs.Json.{value}
-use Rattle.cadf_json.specs.TokenUtf8.{HaveUtf8}
+use Rattle.cadf_json.proofs.Common.{◌≡◌, length, option_map, value, HaveUtf8}
 use Rattle.cadf_json.proofs.TakenApart.{Apart}
 use Rattle.cadf_json.proofs.apart.pass_members.Given as goal
 

@@ -1,12 +1,4 @@
-use Rattle.std.proofs.lemmas.Grind.{common_steps}
-use Rattle.std.proofs.Common.{◌≡◌, [], ◌∷◌, length, Some, IsUtf8, sym, ap, ◌∙◌, arith, rules}
-use Rattle.json.specs.Token.{Token}
-use Rattle.json.specs.Lex.{tokens}
-use Rattle.json.specs.Json.{parse_map, members, value}
-use Rattle.json.proofs.Grammar.{value-begin_object}
-use Rattle.serde_json.specs.Data.{object}
-use Rattle.serde_json.specs.Read.{of_json, converted}
-use Rattle.cadf_json.specs.Apart.{emptied_in}
+use Rattle.cadf_json.proofs.Common.{common_steps, ◌≡◌, [], ◌∷◌, length, Some, IsUtf8, sym, ap, ◌∙◌, arith, rules, Token, tokens, parse_map, members, value, value-begin_object, object, of_json, converted, emptied_in}
 use Rattle.cadf_json.proofs.Decoding.{flat_value}
 use Rattle.cadf_json.proofs.Settling.{from_none}
 use Rattle.cadf_json.proofs.Spelled.{spelled_is_value}

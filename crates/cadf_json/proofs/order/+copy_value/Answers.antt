@@ -1,10 +1,4 @@
-use Rattle.std.proofs.lemmas.Grind.{common_steps}
-use Rattle.std.proofs.Common.{◌≡◌, [], ◌∷◌, ◌++◌, length, ◌+◌, ◌-◌, false, drop, take, set, slice_index_or, refl, sym, ap, ◌∙◌, subst, arith, rules, length-drop}
-use Rattle.std.proofs.lemmas.List.{at_drop_all}
-use Rattle.std.proofs.lemmas.Result.{on_ok_weaker}
-use Rattle.cadf_json.specs.declared.node.Node.TheVariants.{Null, Text, Array, Object}
-use Rattle.cadf_json.specs.Flat.{Stands, settled, size_of}
-use Rattle.cadf_json.specs.Reading.{Copied, is_replaced, lasts}
+use Rattle.cadf_json.proofs.Common.{common_steps, ◌≡◌, [], ◌∷◌, ◌++◌, length, ◌+◌, ◌-◌, false, drop, take, set, slice_index_or, refl, sym, ap, ◌∙◌, subst, arith, rules, length-drop, at_drop_all, on_ok_weaker, Null, Text, Array, Object, Stands, settled, size_of, Copied, is_replaced, lasts}
 use Rattle.cadf_json.proofs.Copying.{nonempty, begun_by, scalar_begun, place_within, ItemsCopied, copied_none, copied_more, copied_all, MembersCopied}
 use Rattle.cadf_json.proofs.Copying.{first_kept, named_none, named_more, named_all}
 use Rattle.cadf_json.proofs.Firsts.{first_item, tail_of, tail_is}

@@ -1,7 +1,4 @@
-use Rattle.std.proofs.Common.{◌≡◌, ◌+◌, ◌-◌, ◌*◌, ◌≤◌, length, drop}
-use Rattle.serde_json.specs.Data.{Items, Members}
-use Rattle.cadf_json.specs.Flat.{ItemsStand, MembersStand}
-use Rattle.cadf_json.specs.Reading.{lasts}
+use Rattle.cadf_json.proofs.Common.{◌≡◌, ◌+◌, ◌-◌, ◌*◌, ◌≤◌, length, drop, Items, Members, ItemsStand, MembersStand, lasts}
 use Rattle.cadf_json.proofs.Copying.{ItemsCopied, MembersCopied}
 use Rattle.cadf_json.proofs.order.+copy_value.Given as goal
 

@@ -1,6 +1,4 @@
-use Rattle.std.proofs.Common.{◌≡◌, [], length, refl, sym, ap, ◌∙◌, subst, arith}
-use Rattle.cadf_json.specs.declared.order.Named.{Named}
-use Rattle.cadf_json.specs.Reading.{put_named}
+use Rattle.cadf_json.proofs.Common.{◌≡◌, [], length, refl, sym, ap, ◌∙◌, subst, arith, Named, put_named}
 use Rattle.std.specs.FinMap.Entries as entries
 use Rattle.cadf_json.proofs.ByName.{Naming, name_cmp, put_named_push, naming_start, naming_more, naming_over}
 use Rattle.cadf_json.proofs.Firsts.{some_member}

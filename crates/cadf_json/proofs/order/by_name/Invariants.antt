@@ -1,7 +1,4 @@
-use Rattle.std.proofs.Common.{length, []}
-use Rattle.serde_json.specs.Data.{Members}
-use Rattle.cadf_json.specs.Flat.{MembersStand}
-use Rattle.cadf_json.specs.Reading.{put_named}
+use Rattle.cadf_json.proofs.Common.{length, [], Members, MembersStand, put_named}
 use Rattle.cadf_json.proofs.ByName.{Naming}
 use Rattle.cadf_json.proofs.order.by_name.Given as goal
 

@@ -1,5 +1,4 @@
-use Rattle.std.proofs.Common.{subst}
-use Rattle.cadf_json.specs.Flat.{Stands}
+use Rattle.cadf_json.proofs.Common.{subst, Stands}
 use Rattle.cadf_json.proofs.order.put_in_order.Goals as goal
 
 pub returns-then-rising : goal.returns-then-rising

@@ -1,5 +1,4 @@
-use Rattle.std.proofs.Common.{sym, ap, ◌∙◌}
-use Rattle.cadf_json.specs.Flat.{have_fraction}
+use Rattle.cadf_json.proofs.Common.{sym, ap, ◌∙◌, have_fraction}
 use Rattle.cadf_json.proofs.Decoding.{decoded, fraction_is}
 use Rattle.cadf_json.proofs.order.settle.Goals as goal
 

@@ -1,8 +1,4 @@
-use Rattle.std.proofs.Common.{rules}
-use Rattle.std.proofs.lemmas.Cmp.{nat_list_cmp_total}
-use Rattle.std.proofs.lemmas.List.Sorted.{ranks_by, answers_always}
-use Rattle.std.proofs.lemmas.Result.{on_ok_weaker}
-use Rattle.cadf_json.specs.declared.order.Named.{Named}
+use Rattle.cadf_json.proofs.Common.{rules, nat_list_cmp_total, ranks_by, answers_always, on_ok_weaker, Named}
 use Rattle.cadf_json.proofs.Sorted.{below, lasts_are}
 use Rattle.cadf_json.proofs.order.sort.Goals as goal
 

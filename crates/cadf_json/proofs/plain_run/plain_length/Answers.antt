@@ -1,6 +1,4 @@
-use Rattle.std.proofs.lemmas.Grind.{common_steps}
-use Rattle.std.proofs.Common.{sym, ap, ◌∙◌, arith}
-use lib.Count.{count_trailing_zeros}
+use Rattle.cadf_json.proofs.Common.{common_steps, sym, ap, ◌∙◌, arith, count_trailing_zeros}
 use Rattle.cadf_json.proofs.PlainRuns.{run_bound, run_through, run_stops}
 use Rattle.cadf_json.proofs.plain_run.plain_length.Goals as goal
 

@@ -1,6 +1,4 @@
-use Rattle.std.proofs.Common.{◌≡◌, ◌+◌, ◌-◌, ◌≤◌, length, drop}
-use Rattle.std.specs.List.{prefix_len}
-use Rattle.json.specs.Run.{is_plain}
+use Rattle.cadf_json.proofs.Common.{◌≡◌, ◌+◌, ◌-◌, ◌≤◌, length, drop, prefix_len, is_plain}
 use Rattle.cadf_json.proofs.plain_run.plain_length.Given as goal
 
 abbrev pub invariant-loop-at : goal.invariant-loop-at

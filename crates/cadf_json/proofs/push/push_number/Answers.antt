@@ -1,8 +1,4 @@
-use Rattle.std.proofs.lemmas.Grind.{common_steps}
-use Rattle.std.proofs.Common.{◌≡◌, [], ◌∷◌, Some, true, option_map, inr, refl, sym, ap, ◌∙◌, append-nil, rules, arith}
-use Rattle.serde_json.specs.Find.{is_float}
-use Rattle.serde_json.specs.Read.{number_of}
-use Rattle.cadf_json.specs.Number.{num_of}
+use Rattle.cadf_json.proofs.Common.{common_steps, ◌≡◌, [], ◌∷◌, Some, true, option_map, inr, refl, sym, ap, ◌∙◌, append-nil, rules, arith, is_float, number_of, num_of}
 use Rattle.cadf_json.proofs.Numbers.{whole_number_of}
 use Rattle.cadf_json.proofs.push.push_number.Goals as goal
 

@@ -1,17 +1,5 @@
-use Rattle.std.proofs.lemmas.Grind.{common_steps}
-use Rattle.std.proofs.Common.{◌≡◌, ◌+◌, ◌<◌, [], ◌∷◌, length, set, ◌&&◌, Some, None, Err, option_map, refl, sym, ap, ◌∙◌, subst, arith, rules, append-nil}
-use Rattle.json.specs.Json.{after_end_array, read_key, value}
-use Rattle.json.specs.Reads.{token_of}
-use Rattle.json.proofs.Grammar.{value_is, value-begin_array, value-begin_object, read_key-shorter}
-use Rattle.serde_json.specs.Data.{null, boolean, number, string}
-use Rattle.serde_json.specs.Read.{of_json, converted}
+use Rattle.cadf_json.proofs.Common.{common_steps, ◌≡◌, ◌+◌, ◌<◌, [], ◌∷◌, length, set, ◌&&◌, Some, None, Err, option_map, refl, sym, ap, ◌∙◌, subst, arith, rules, append-nil, after_end_array, read_key, value, token_of, value_is, value-begin_array, value-begin_object, read_key-shorter, null, boolean, number, string, of_json, converted, NotJson, opens, and_parts, is_name_above, put_all, no_members}
 use Rattle.cadf_json.proofs.Turns.{converted-array, converted-object}
-use Rattle.cadf_json.specs.declared.value.JsonFault.TheVariants.{NotJson}
-use Rattle.json.specs.Reads.{opens}
-use Rattle.std.proofs.lemmas.Bool.{and_parts}
-use Rattle.cadf_json.specs.Reading.{is_name_above}
-use Rattle.cadf_json.specs.Flat.{put_all}
-use Rattle.serde_json.specs.Data.{no_members}
 use Rattle.cadf_json.proofs.Settling.{scalar}
 use Rattle.cadf_json.proofs.Loops.{too_deep, ItemsRead, MembersRead, items_start, one_more_item, all_items, no_items_here}
 use Rattle.cadf_json.proofs.Loops.{members_start, one_more_member, all_members, no_key_here, no_member_here}

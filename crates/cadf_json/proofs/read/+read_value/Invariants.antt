@@ -1,5 +1,4 @@
-use Rattle.std.proofs.Common.{◌≡◌, ◌+◌, ◌*◌, length, option_map}
-use Rattle.json.specs.Json.{value}
+use Rattle.cadf_json.proofs.Common.{◌≡◌, ◌+◌, ◌*◌, length, option_map, value}
 use Rattle.cadf_json.proofs.Loops.{ItemsRead, MembersRead}
 use Rattle.cadf_json.proofs.read.+read_value.Given as goal
 

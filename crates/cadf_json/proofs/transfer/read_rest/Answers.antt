@@ -1,5 +1,4 @@
-use Rattle.std.proofs.lemmas.Grind.{common_steps}
-use Rattle.std.proofs.Common.{◌≡◌, ◌∙◌, ℕ, ◌++◌, length, take, ap, arith, rules, append_assoc, length-append, length-take}
+use Rattle.cadf_json.proofs.Common.{common_steps, ◌≡◌, ◌∙◌, ℕ, ◌++◌, length, take, ap, arith, rules, append_assoc, length-append, length-take}
 use Rattle.cadf_json.proofs.Known.{consumes_more}
 use Rattle.cadf_json.proofs.transfer.read_rest.Goals as goal
 

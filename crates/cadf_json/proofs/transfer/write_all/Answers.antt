@@ -1,6 +1,4 @@
-use Rattle.std.proofs.Common.{arith, length-take, length-drop}
-use Rattle.std.proofs.lemmas.Grind.{common_steps}
-use Rattle.std.proofs.lemmas.Bool.Decides.{nat_tests}
+use Rattle.cadf_json.proofs.Common.{arith, length-take, length-drop, common_steps, nat_tests}
 use Rattle.cadf_json.proofs.Known.{appends_more, take_further}
 use Rattle.cadf_json.proofs.transfer.write_all.Goals as goal
 

@@ -1,5 +1,4 @@
-use Rattle.std.proofs.Common.{◌≡◌, ◌≤◌, ◌+◌, ◌-◌, take, length}
-use Rattle.std.specs.Io.KnownBytes.{Appends}
+use Rattle.cadf_json.proofs.Common.{◌≡◌, ◌≤◌, ◌+◌, ◌-◌, take, length, Appends}
 use Rattle.cadf_json.proofs.transfer.write_all.Given as goal
 
 -- a prefix of the bytes was written, and no write failed

@@ -1,7 +1,4 @@
-use Rattle.std.proofs.Common.{◌≡◌, [], Some, Err, IsUtf8, sym, ap, ◌∙◌, arith, rules}
-use Rattle.json.specs.Lex.{tokens}
-use Rattle.serde_json.specs.Written.{has_float}
-use Rattle.cadf_json.specs.declared.value.JsonFault.TheVariants.{NotWhole}
+use Rattle.cadf_json.proofs.Common.{◌≡◌, [], Some, Err, IsUtf8, sym, ap, ◌∙◌, arith, rules, tokens, has_float, NotWhole}
 use Rattle.cadf_json.proofs.Decoding.{flat_value}
 use Rattle.cadf_json.proofs.Settling.{from_none}
 use Rattle.cadf_json.proofs.Spelled.{spelled_is_value}

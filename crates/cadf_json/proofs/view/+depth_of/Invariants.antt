@@ -1,6 +1,4 @@
-use Rattle.std.proofs.Common.{◌≡◌, ◌≤◌, max}
-use Rattle.serde_json.specs.Data.{items_depth, members_depth}
-use Rattle.cadf_json.specs.Parts.{items_in, members_in}
+use Rattle.cadf_json.proofs.Common.{◌≡◌, ◌≤◌, max, items_depth, members_depth, items_in, members_in}
 use Rattle.cadf_json.proofs.Depths.{weight, items_weight, members_weight}
 use Rattle.cadf_json.proofs.view.+depth_of.Given as goal
 

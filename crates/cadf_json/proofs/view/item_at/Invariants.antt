@@ -1,5 +1,4 @@
-use Rattle.std.proofs.Common.{◌≡◌, slice_get}
-use Rattle.cadf_json.specs.Parts.{to_list}
+use Rattle.cadf_json.proofs.Common.{◌≡◌, slice_get, to_list}
 use Rattle.cadf_json.proofs.view.item_at.Given as goal
 
 abbrev pub invariant-loop-item : goal.invariant-loop-item

@@ -1,5 +1,4 @@
-use Rattle.std.proofs.Common.{◌≡◌, slice_get}
-use Rattle.cadf_json.specs.Parts.{values_of}
+use Rattle.cadf_json.proofs.Common.{◌≡◌, slice_get, values_of}
 use Rattle.cadf_json.proofs.view.value_at.Given as goal
 
 abbrev pub invariant-loop-member : goal.invariant-loop-member

@@ -1,7 +1,4 @@
-use Rattle.std.proofs.lemmas.Grind.{common_steps}
-use Rattle.std.proofs.Common.{◌≡◌, ◌+◌, ◌-◌, slice_index_or, take, drop, ap, ◌∙◌, arith, refl, length-append}
-use Rattle.cadf_json.specs.declared.node.Node.TheVariants.{Null}
-use Rattle.cadf_json.specs.Flat.{size_of}
+use Rattle.cadf_json.proofs.Common.{common_steps, ◌≡◌, ◌+◌, ◌-◌, slice_index_or, take, drop, ap, ◌∙◌, arith, refl, length-append, Null, size_of}
 use Rattle.cadf_json.proofs.Firsts.{opens, first_of}
 use Rattle.cadf_json.proofs.walk.first_member.Goals as goal
 

@@ -1,5 +1,4 @@
-use Rattle.std.proofs.lemmas.Grind.{common_steps}
-use Rattle.std.proofs.Common.{arith}
+use Rattle.cadf_json.proofs.Common.{common_steps, arith}
 use Rattle.cadf_json.proofs.write.+write_value.Goals as goal
 
 pub write_items-write_value-requires : goal.write_items-write_value-requires

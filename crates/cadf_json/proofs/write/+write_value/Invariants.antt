@@ -1,8 +1,4 @@
-use Rattle.std.proofs.Common.{◌≡◌, ◌≤◌, ◌+◌, ◌*◌, ◌++◌}
-use Rattle.serde_json.specs.Data.{array, object}
-use Rattle.serde_json.specs.Written.{items_text, members_text}
-use Rattle.cadf_json.specs.Parts.{items_in, members_in}
-use Rattle.cadf_json.specs.Value.{text}
+use Rattle.cadf_json.proofs.Common.{◌≡◌, ◌≤◌, ◌+◌, ◌*◌, ◌++◌, array, object, items_text, members_text, items_in, members_in, text}
 use Rattle.cadf_json.proofs.Depths.{weight, items_weight, members_weight}
 use Rattle.cadf_json.proofs.write.+write_value.Given as goal
 

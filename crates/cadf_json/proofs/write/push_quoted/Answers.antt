@@ -1,9 +1,4 @@
-use Rattle.std.proofs.lemmas.Grind.{common_steps}
-use Rattle.std.proofs.Common.{◌≡◌, ◌++◌, [], ◌∷◌, ℕ, List, ap, ap₂, ◌∙◌, append-nil, append_assoc, length, sym, arith}
-use Rattle.std.specs.List.{prefix_len}
-use Rattle.json.specs.Run.{is_plain}
-use Rattle.json.specs.Token.{Token}
-use Rattle.json.specs.Print.{print, print_from, quoted, escape}
+use Rattle.cadf_json.proofs.Common.{common_steps, ◌≡◌, ◌++◌, [], ◌∷◌, ℕ, List, ap, ap₂, ◌∙◌, append-nil, append_assoc, length, sym, arith, prefix_len, is_plain, Token, print, print_from, quoted, escape}
 use Rattle.cadf_json.proofs.PlainRuns.{spelled_whole}
 use Rattle.cadf_json.proofs.write.push_quoted.Goals as goal
 

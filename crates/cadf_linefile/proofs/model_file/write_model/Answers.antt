@@ -1,5 +1,4 @@
-use Rattle.std.proofs.lemmas.Grind.{common_steps}
-use Rattle.std.proofs.Common.{arith}
+use Rattle.cadf_linefile.proofs.Common.{common_steps, arith}
 use Rattle.cadf_linefile.proofs.WritingLemmas.{on_ok, on_err}
 use Rattle.cadf_linefile.proofs.model_file.write_model.Goals as goal
 

@@ -1,5 +1,4 @@
-use Rattle.std.proofs.lemmas.Grind.{common_steps}
-use Rattle.std.proofs.Common.{arith}
+use Rattle.cadf_linefile.proofs.Common.{common_steps, arith}
 use Rattle.cadf_linefile.proofs.stage.accept_line.Goals as goal
 
 pub returns-clause-sound : goal.returns-clause-sound

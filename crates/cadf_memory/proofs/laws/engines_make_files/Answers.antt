@@ -1,8 +1,4 @@
-use Rattle.std.proofs.Common.{map, sym, subst}
-use Rattle.cadf_tool.specs.Requested.{IsAnswered}
-use Rattle.cadf_tool.proofs.Accepted.{accepted}
-use Rattle.cadf_tool.proofs.MadeByRuns.{answered}
-use Rattle.cadf_memory.specs.Memory.{unread}
+use Rattle.cadf_memory.proofs.Common.{map, sym, subst, IsAnswered, accepted, answered, unread}
 use Rattle.cadf_memory.proofs.laws.engines_make_files.Goals as goal
 
 pub returns-clause-made : goal.returns-clause-made

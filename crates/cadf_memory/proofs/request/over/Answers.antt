@@ -1,8 +1,4 @@
-use Rattle.std.proofs.lemmas.Grind.{common_steps}
-use Rattle.std.proofs.lemmas.Result.{err_from_is_err_and}
-use Rattle.std.proofs.Common.{arith, rules, refl, sym, ap, ◌∙◌, ◌≡◌, subst, map, length, true}
-use Rattle.cadf_tool.specs.Request.{accepts}
-use Rattle.cadf_memory.specs.Memory.{bytes_in, unread, slice_state}
+use Rattle.cadf_memory.proofs.Common.{common_steps, err_from_is_err_and, arith, rules, refl, sym, ap, ◌∙◌, ◌≡◌, subst, map, length, true, accepts, bytes_in, unread, slice_state}
 use Rattle.cadf_memory.proofs.Outcomes.{no_memory, counted, outcome}
 use Rattle.cadf_memory.proofs.request.over.Goals as goal
 

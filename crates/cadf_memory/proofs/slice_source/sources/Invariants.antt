@@ -1,5 +1,4 @@
-use Rattle.std.proofs.Common.{◌≡◌, ◌++◌, map, drop}
-use Rattle.cadf_memory.specs.Memory.{slice_state, unread, bytes_in}
+use Rattle.cadf_memory.proofs.Common.{◌≡◌, ◌++◌, map, drop, slice_state, unread, bytes_in}
 use Rattle.cadf_memory.proofs.slice_source.sources.Given as goal
 
 -- a source of each input so far, and those to come

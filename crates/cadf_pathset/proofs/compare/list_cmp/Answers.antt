@@ -1,9 +1,4 @@
-use Rattle.std.proofs.lemmas.Grind.{common_steps}
-use Rattle.std.proofs.Common.{◌≡◌, ◌<◌, ◌-◌, length, map, take, get_or, [], arith, ap, sym, ◌∙◌}
-use Rattle.std.specs.Ordering.{ordering_then}
-use Rattle.std.proofs.lemmas.List.{length-map, length-take, length-take-le}
-use Rattle.cadf_join.specs.Contents.{Texts, text_cmp}
-use Rattle.cadf_pathset.specs.Nodes.{Agree, list_at, last_text, shared}
+use Rattle.cadf_pathset.proofs.Common.{common_steps, ◌≡◌, ◌<◌, ◌-◌, length, map, take, get_or, [], arith, ap, sym, ◌∙◌, ordering_then, length-map, length-take, length-take-le, Texts, text_cmp, Agree, list_at, last_text, shared}
 use Rattle.cadf_pathset.proofs.Arena.{one_longer}
 use Rattle.cadf_pathset.proofs.Orders.{cmp_start, cmp_up, front_more}
 use Rattle.cadf_pathset.proofs.Agreement.{agree_less, ended}

@@ -1,7 +1,4 @@
-use Rattle.std.proofs.Common.{◌≡◌, ◌≤◌, length, map, take}
-use Rattle.std.specs.Ordering.{ordering_then}
-use Rattle.cadf_join.specs.Contents.{texts_cmp}
-use Rattle.cadf_pathset.specs.Nodes.{Agree, list_at, shared}
+use Rattle.cadf_pathset.proofs.Common.{◌≡◌, ◌≤◌, length, map, take, ordering_then, texts_cmp, Agree, list_at, shared}
 use Rattle.cadf_pathset.proofs.compare.list_cmp.Given as goal
 
 abbrev pub invariant-loop-depth : goal.invariant-loop-depth

@@ -1,7 +1,4 @@
-use Rattle.std.proofs.lemmas.Grind.{common_steps}
-use Rattle.std.proofs.Common.{◌≡◌, ◌-◌, ◌∙◌, sym, arith, length}
-use Rattle.cadf_join.specs.Contents.{Texts}
-use Rattle.cadf_pathset.specs.Nodes.{last_text, list_at}
+use Rattle.cadf_pathset.proofs.Common.{common_steps, ◌≡◌, ◌-◌, ◌∙◌, sym, arith, length, Texts, last_text, list_at}
 use Rattle.cadf_pathset.proofs.Agreement.{agree_less}
 use Rattle.cadf_pathset.proofs.Arena.{one_longer}
 use Rattle.cadf_pathset.proofs.Climbs.{front_up}

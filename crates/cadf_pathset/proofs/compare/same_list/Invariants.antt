@@ -1,5 +1,4 @@
-use Rattle.std.proofs.Common.{◌≡◌, ◌≤◌, length, take}
-use Rattle.cadf_pathset.specs.Nodes.{list_at}
+use Rattle.cadf_pathset.proofs.Common.{◌≡◌, ◌≤◌, length, take, list_at}
 use Rattle.cadf_pathset.proofs.compare.same_list.Given as goal
 
 abbrev pub invariant-loop-left : goal.invariant-loop-left

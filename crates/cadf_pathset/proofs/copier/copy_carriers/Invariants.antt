@@ -1,5 +1,4 @@
-use Rattle.std.proofs.Common.{◌≡◌, length}
-use Rattle.cadf_pathset.specs.Carriers.{carriers_in}
+use Rattle.cadf_pathset.proofs.Common.{◌≡◌, length, carriers_in}
 use Rattle.cadf_pathset.proofs.copier.copy_carriers.Given as goal
 
 abbrev pub invariant-loop-copier : goal.invariant-loop-copier

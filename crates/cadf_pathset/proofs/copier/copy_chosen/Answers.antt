@@ -1,6 +1,4 @@
-use Rattle.std.proofs.lemmas.Grind.{common_steps}
-use Rattle.std.proofs.Common.{arith}
-use Rattle.std.proofs.lemmas.List.{append-nil}
+use Rattle.cadf_pathset.proofs.Common.{common_steps, arith, append-nil}
 use Rattle.cadf_pathset.proofs.Copies.{chosen_none}
 use Rattle.cadf_pathset.proofs.copier.copy_chosen.Goals as goal
 

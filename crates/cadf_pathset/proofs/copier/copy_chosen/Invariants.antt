@@ -1,5 +1,4 @@
-use Rattle.std.proofs.Common.{◌≡◌, ◌++◌, drop}
-use Rattle.cadf_pathset.specs.Lists.{chosen_of}
+use Rattle.cadf_pathset.proofs.Common.{◌≡◌, ◌++◌, drop, chosen_of}
 use Rattle.cadf_pathset.proofs.copier.copy_chosen.Given as goal
 
 abbrev pub invariant-loop-flag : goal.invariant-loop-flag

@@ -1,10 +1,4 @@
-use Rattle.std.proofs.Common.{◌++◌, subst, ◌∙◌}
-use Rattle.std.specs.declared.cmp.Ordering.TheVariants.{Less, Equal, Greater}
-use Rattle.cadf_join.specs.Contents.{texts_cmp}
-use Rattle.cadf_join.specs.Prefixes.{texts_at}
-use Rattle.cadf_pathset.specs.Merge.{sorted_without}
-use Rattle.cadf_pathset.specs.Nodes.{Agree}
-use Rattle.cadf_pathset.specs.Walks.{Advances, Steps}
+use Rattle.cadf_pathset.proofs.Common.{◌++◌, subst, ◌∙◌, Less, Equal, Greater, texts_cmp, texts_at, sorted_without, Agree, Advances, Steps}
 use Rattle.cadf_pathset.proofs.Agreement.{agree_turned}
 use Rattle.cadf_pathset.proofs.Copies.{left_less, left_equal, left_greater, order_turned, stepped_agrees, stepped_ahead}
 use Rattle.cadf_pathset.proofs.copier.copy_lacking.Goals as goal

@@ -1,8 +1,4 @@
-use Rattle.std.proofs.Common.{◌≡◌, ◌++◌, ◌+◌, length}
-use Rattle.cadf_join.specs.Contents.{texts_cmp}
-use Rattle.cadf_pathset.specs.Nodes.{Agree}
-use Rattle.cadf_pathset.specs.Walks.{lists_ahead}
-use Rattle.cadf_pathset.specs.Merge.{sorted_without}
+use Rattle.cadf_pathset.proofs.Common.{◌≡◌, ◌++◌, ◌+◌, length, texts_cmp, Agree, lists_ahead, sorted_without}
 use Rattle.cadf_pathset.proofs.copier.copy_lacking.Given as goal
 
 abbrev pub invariant-loop-more : goal.invariant-loop-more

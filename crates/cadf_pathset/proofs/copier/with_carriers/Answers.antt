@@ -1,11 +1,5 @@
-use Rattle.std.proofs.Common.{◌≡◌, [], Ok, Err, OnOk, IfOk, Result, true, ap, sym, subst, ◌∙◌}
-use Rattle.std.specs.List.Sorted.{IsStrictlySortedBy}
-use Rattle.std.specs.Result.{result_and}
-use Rattle.cadf_join.specs.Contents.{texts_cmp}
+use Rattle.cadf_pathset.proofs.Common.{◌≡◌, [], Ok, Err, OnOk, IfOk, Result, true, ap, sym, subst, ◌∙◌, IsStrictlySortedBy, result_and, texts_cmp, texts_total, texts_same, carriers_in, with_carriers_by, sorted_merge}
 use Rattle.cadf_join.specs.Sets as set
-use Rattle.cadf_join.specs.laws.Contents.{texts_total, texts_same}
-use Rattle.cadf_pathset.specs.Carriers.{carriers_in, with_carriers_by}
-use Rattle.cadf_pathset.specs.Merge.{sorted_merge}
 use Rattle.cadf_pathset.proofs.CarrierLists.{rises, with_theirs}
 use Rattle.cadf_pathset.proofs.Merges.{merged_rises, nil_rises}
 use Rattle.cadf_pathset.proofs.copier.with_carriers.Goals as goal

@@ -1,6 +1,4 @@
-use Rattle.std.proofs.Common.{◌≡◌, ◌-◌, length, take}
-use Rattle.cadf_join.specs.Prefixes.{texts_at}
-use Rattle.cadf_pathset.specs.Nodes.{place}
+use Rattle.cadf_pathset.proofs.Common.{◌≡◌, ◌-◌, length, take, texts_at, place}
 use Rattle.cadf_pathset.proofs.cursor.read_line.Given as goal
 
 abbrev pub invariant-loop-path : goal.invariant-loop-path

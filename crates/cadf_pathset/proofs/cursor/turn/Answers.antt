@@ -1,5 +1,4 @@
-use Rattle.std.proofs.lemmas.Grind.{common_steps}
-use Rattle.std.proofs.Common.{arith}
+use Rattle.cadf_pathset.proofs.Common.{common_steps, arith}
 use Rattle.cadf_pathset.proofs.Threads.{place_of, self_line}
 use Rattle.cadf_pathset.proofs.Agreement.{agree_turned}
 use Rattle.cadf_pathset.proofs.cursor.turn.Goals as goal

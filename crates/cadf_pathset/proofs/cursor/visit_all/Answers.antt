@@ -1,11 +1,5 @@
-use Rattle.std.proofs.lemmas.Grind.{common_steps}
-use Rattle.std.proofs.Common.{◌≡◌, ◌++◌, ◌∷◌, [], Some, ap, sym, subst, ◌∙◌, take, length, arith}
-use Rattle.std.proofs.lemmas.List.{append-nil, length-map, take_all}
-use Rattle.cadf_join.specs.Prefixes.{continued, texts_at}
+use Rattle.cadf_pathset.proofs.Common.{common_steps, ◌≡◌, ◌++◌, ◌∷◌, [], Some, ap, sym, subst, ◌∙◌, take, length, arith, append-nil, length-map, take_all, continued, texts_at, shown_at_first, shown_more, shown_stops_in, Agree, Advances}
 use Rattle.cadf_join.proofs.Outcome as outcome
-use Rattle.cadf_join.proofs.Shows.{shown_at_first, shown_more, shown_stops_in}
-use Rattle.cadf_pathset.specs.Nodes.{Agree}
-use Rattle.cadf_pathset.specs.Walks.{Advances}
 use Rattle.cadf_pathset.proofs.Replaced.{agrees_next, fits_path, front_is, keeps_behind, keeps_first, keeps_whole, reaches, shares_front}
 use Rattle.cadf_pathset.proofs.cursor.visit_all.Goals as goal
 

@@ -1,5 +1,4 @@
-use Rattle.std.proofs.lemmas.Grind.{common_steps}
-use Rattle.std.proofs.Common.{arith}
+use Rattle.cadf_pathset.proofs.Common.{common_steps, arith}
 use Rattle.cadf_pathset.proofs.Membership.{in_suffixes, in_carriers}
 use Rattle.cadf_pathset.proofs.laws.membership_laws.Goals as goal
 

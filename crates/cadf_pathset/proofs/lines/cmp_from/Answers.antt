@@ -1,6 +1,4 @@
-use Rattle.std.proofs.lemmas.Grind.{common_steps}
-use Rattle.std.proofs.Common.{◌∙◌, length, map, arith, sym}
-use Rattle.std.proofs.lemmas.List.{length-map}
+use Rattle.cadf_pathset.proofs.Common.{common_steps, ◌∙◌, length, map, arith, sym, length-map}
 use Rattle.cadf_pathset.proofs.Compared.{is_equal, not_equal, part_here, agree_here, end_here}
 use Rattle.cadf_pathset.proofs.lines.cmp_from.Goals as goal
 

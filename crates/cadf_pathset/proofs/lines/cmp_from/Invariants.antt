@@ -1,5 +1,4 @@
-use Rattle.std.proofs.Common.{◌-◌, length, map}
-use Rattle.cadf_pathset.specs.Nodes.{Agree, place}
+use Rattle.cadf_pathset.proofs.Common.{◌-◌, length, map, Agree, place}
 use Rattle.cadf_pathset.proofs.lines.cmp_from.Given as goal
 
 abbrev pub invariant-loop-agreed : goal.invariant-loop-agreed

@@ -1,7 +1,4 @@
-use Rattle.std.proofs.lemmas.Grind.{common_steps}
-use Rattle.std.proofs.Common.{◌≡◌, ◌++◌, ◌∷◌, ◌∙◌, [], ap, arith, length, map, take}
-use Rattle.std.proofs.lemmas.List.{length-map}
-use Rattle.cadf_pathset.specs.Nodes.{IsLine, last_node, list_at, place}
+use Rattle.cadf_pathset.proofs.Common.{common_steps, ◌≡◌, ◌++◌, ◌∷◌, ◌∙◌, [], ap, arith, length, map, take, length-map, IsLine, last_node, list_at, place}
 use Rattle.cadf_pathset.proofs.Threads.{kept_again, kept_more, line_grown, line_kept, line_on, place_of, self_line}
 use Rattle.cadf_pathset.proofs.lines.extend.Goals as goal
 

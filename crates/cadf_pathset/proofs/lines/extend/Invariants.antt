@@ -1,5 +1,4 @@
-use Rattle.std.proofs.Common.{◌≡◌, ◌-◌, length, map, take}
-use Rattle.cadf_pathset.specs.Nodes.{IsLine}
+use Rattle.cadf_pathset.proofs.Common.{◌≡◌, ◌-◌, length, map, take, IsLine}
 use Rattle.cadf_pathset.proofs.lines.extend.Given as goal
 
 abbrev pub invariant-loop-nodes : goal.invariant-loop-nodes

@@ -1,6 +1,4 @@
-use Rattle.std.proofs.lemmas.Grind.{common_steps}
-use Rattle.std.proofs.Common.{arith, length, take, subst, sym}
-use Rattle.cadf_pathset.specs.Nodes.{IsClimb, IsLine, list_at, place}
+use Rattle.cadf_pathset.proofs.Common.{common_steps, arith, length, take, subst, sym, IsClimb, IsLine, list_at, place}
 use Rattle.cadf_pathset.proofs.Threads.{climb_less, climb_line, line_cut, self_line}
 use Rattle.cadf_pathset.proofs.lines.follow.Goals as goal
 

@@ -1,5 +1,4 @@
-use Rattle.std.proofs.Common.{◌≡◌, ◌+◌, ◌≤◌, length, take}
-use Rattle.cadf_pathset.specs.Nodes.{list_at, IsClimb, IsLine, last_node}
+use Rattle.cadf_pathset.proofs.Common.{◌≡◌, ◌+◌, ◌≤◌, length, take, list_at, IsClimb, IsLine, last_node}
 use Rattle.cadf_pathset.proofs.lines.follow.Given as goal
 
 abbrev pub invariant-loop-at : goal.invariant-loop-at

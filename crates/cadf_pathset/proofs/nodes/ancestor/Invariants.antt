@@ -1,5 +1,4 @@
-use Rattle.std.proofs.Common.{◌≡◌, ◌≤◌, length, take}
-use Rattle.cadf_pathset.specs.Nodes.{list_at}
+use Rattle.cadf_pathset.proofs.Common.{◌≡◌, ◌≤◌, length, take, list_at}
 use Rattle.cadf_pathset.proofs.nodes.ancestor.Given as goal
 
 abbrev pub invariant-loop-depth : goal.invariant-loop-depth

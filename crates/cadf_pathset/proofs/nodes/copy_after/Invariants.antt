@@ -1,6 +1,4 @@
-use Rattle.std.proofs.Common.{◌≡◌, ◌≤◌, ◌++◌, length, reverse}
-use Rattle.cadf_join.specs.Prefixes.{chain_texts}
-use Rattle.cadf_pathset.specs.Nodes.{list_at}
+use Rattle.cadf_pathset.proofs.Common.{◌≡◌, ◌≤◌, ◌++◌, length, reverse, chain_texts, list_at}
 use Rattle.cadf_pathset.proofs.nodes.copy_after.Given as goal
 
 abbrev pub invariant-loop-left : goal.invariant-loop-left

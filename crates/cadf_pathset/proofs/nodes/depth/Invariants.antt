@@ -1,5 +1,4 @@
-use Rattle.std.proofs.Common.{◌≡◌, ◌+◌, ◌≤◌, length}
-use Rattle.cadf_pathset.specs.Nodes.{list_at}
+use Rattle.cadf_pathset.proofs.Common.{◌≡◌, ◌+◌, ◌≤◌, length, list_at}
 use Rattle.cadf_pathset.proofs.nodes.depth.Given as goal
 
 abbrev pub invariant-loop-at : goal.invariant-loop-at

@@ -1,5 +1,4 @@
-use Rattle.std.proofs.Common.{◌≡◌, ◌++◌, drop}
-use Rattle.cadf_join.specs.Prefixes.{chain_texts, texts_at}
+use Rattle.cadf_pathset.proofs.Common.{◌≡◌, ◌++◌, drop, chain_texts, texts_at}
 use Rattle.cadf_pathset.proofs.path_set.continued.Given as goal
 
 abbrev pub invariant-loop-text : goal.invariant-loop-text

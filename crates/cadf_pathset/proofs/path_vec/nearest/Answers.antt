@@ -1,5 +1,4 @@
-use Rattle.std.proofs.lemmas.Grind.{common_steps}
-use Rattle.std.proofs.Common.{arith}
+use Rattle.cadf_pathset.proofs.Common.{common_steps, arith}
 use Rattle.cadf_pathset.proofs.path_vec.nearest.Goals as goal
 
 pub list_cmp-below-requires-clause-there : goal.list_cmp-below-requires-clause-there

@@ -1,6 +1,4 @@
-use Rattle.std.proofs.lemmas.List.{append-nil, drop_all}
-use Rattle.std.proofs.Common.{◌++◌, ◌∙◌, ap, arith, sym}
-use Rattle.cadf_pathset.specs.Lists.{at_places}
+use Rattle.cadf_pathset.proofs.Common.{append-nil, drop_all, ◌++◌, ◌∙◌, ap, arith, sym, at_places}
 use Rattle.cadf_pathset.proofs.Placed.{placed_next}
 use Rattle.cadf_pathset.proofs.path_vec.numbers_at.Goals as goal
 

@@ -1,5 +1,4 @@
-use Rattle.std.proofs.Common.{◌≡◌, ◌++◌, drop}
-use Rattle.cadf_pathset.specs.Lists.{at_places}
+use Rattle.cadf_pathset.proofs.Common.{◌≡◌, ◌++◌, drop, at_places}
 use Rattle.cadf_pathset.proofs.path_vec.numbers_at.Given as goal
 
 abbrev pub invariant-loop-place : goal.invariant-loop-place

@@ -1,11 +1,5 @@
-use Rattle.std.proofs.lemmas.Grind.{common_steps}
-use Rattle.std.proofs.Common.{◌≡◌, map, true, arith}
-use Rattle.std.specs.List.Sorted.{IsStrictlySortedBy}
-use Rattle.cadf_join.specs.Contents.{texts_cmp}
+use Rattle.cadf_pathset.proofs.Common.{common_steps, ◌≡◌, map, true, arith, IsStrictlySortedBy, texts_cmp, list_at, sorted_merge, if_ok_then}
 use Rattle.cadf_join.specs.Sets as set
-use Rattle.cadf_pathset.specs.Nodes.{list_at}
-use Rattle.cadf_pathset.specs.Merge.{sorted_merge}
-use Rattle.cadf_join.proofs.Outcome.{if_ok_then}
 use Rattle.cadf_pathset.proofs.Sorts.{halves_rise, halves_are_all}
 use Rattle.cadf_pathset.proofs.sort.+sorted.Goals as goal
 

@@ -1,4 +1,4 @@
-use Rattle.std.proofs.Common.{length}
+use Rattle.cadf_pathset.proofs.Common.{length}
 use Rattle.cadf_pathset.proofs.sort.+sorted.Given as goal
 
 abbrev pub decreases-sorted : goal.decreases-sorted

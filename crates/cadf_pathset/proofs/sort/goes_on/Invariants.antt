@@ -1,6 +1,4 @@
-use Rattle.std.proofs.Common.{◌≡◌, ◌≤◌, ◌++◌, length}
-use Rattle.cadf_join.specs.Contents.{Texts}
-use Rattle.cadf_pathset.specs.Nodes.{list_at}
+use Rattle.cadf_pathset.proofs.Common.{◌≡◌, ◌≤◌, ◌++◌, length, Texts, list_at}
 use Rattle.cadf_pathset.proofs.sort.goes_on.Given as goal
 
 abbrev pub invariant-loop-at : goal.invariant-loop-at

@@ -1,8 +1,4 @@
-use Rattle.std.proofs.lemmas.Grind.{common_steps}
-use Rattle.std.proofs.Common.{ap, sym, subst, ◌∙◌, arith, length}
-use Rattle.std.proofs.lemmas.List.{length-drop}
-use Rattle.std.specs.List.{AllByRecursion}
-use Rattle.cadf_pathset.specs.Nodes.{IsThere, list_at}
+use Rattle.cadf_pathset.proofs.Common.{common_steps, ap, sym, subst, ◌∙◌, arith, length, length-drop, AllByRecursion, IsThere, list_at}
 use Rattle.cadf_pathset.proofs.Bounds.{is_less}
 use Rattle.cadf_pathset.proofs.Narrowed.{all_of_last}
 use Rattle.cadf_pathset.proofs.Sorts.{first_rises, one_rises}

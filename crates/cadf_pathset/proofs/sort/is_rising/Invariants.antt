@@ -1,8 +1,4 @@
-use Rattle.std.proofs.Common.{◌≤◌, length, map}
-use Rattle.std.specs.List.{AllByRecursion}
-use Rattle.std.specs.List.Sorted.{IsStrictlySortedBy}
-use Rattle.cadf_join.specs.Contents.{texts_cmp}
-use Rattle.cadf_pathset.specs.Nodes.{IsThere, list_at}
+use Rattle.cadf_pathset.proofs.Common.{◌≤◌, length, map, AllByRecursion, IsStrictlySortedBy, texts_cmp, IsThere, list_at}
 use Rattle.cadf_pathset.proofs.sort.is_rising.Given as goal
 
 abbrev pub invariant-loop-rest : goal.invariant-loop-rest

@@ -1,9 +1,4 @@
-use Rattle.std.proofs.Common.{◌≡◌, ◌++◌, ◌+◌, length, map, true}
-use Rattle.std.specs.List.{AllByRecursion}
-use Rattle.cadf_join.specs.Contents.{texts_cmp}
-use Rattle.cadf_pathset.specs.Fork.{IsFork}
-use Rattle.cadf_pathset.specs.Nodes.{IsThere, list_at}
-use Rattle.cadf_pathset.specs.Merge.{sorted_merge}
+use Rattle.cadf_pathset.proofs.Common.{◌≡◌, ◌++◌, ◌+◌, length, map, true, AllByRecursion, texts_cmp, IsFork, IsThere, list_at, sorted_merge}
 use Rattle.cadf_pathset.proofs.sort.merged.Given as goal
 
 abbrev pub invariant-loop-ours : goal.invariant-loop-ours

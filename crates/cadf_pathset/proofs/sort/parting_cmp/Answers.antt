@@ -1,9 +1,4 @@
-use Rattle.std.proofs.lemmas.Grind.{common_steps}
-use Rattle.std.proofs.Common.{◌≡◌, length, arith, ap, sym, ◌∙◌}
-use Rattle.std.specs.Ordering.{ordering_then}
-use Rattle.std.proofs.lemmas.List.{length-take}
-use Rattle.cadf_join.specs.Contents.{Texts, text_cmp}
-use Rattle.cadf_pathset.specs.Nodes.{list_at, last_text}
+use Rattle.cadf_pathset.proofs.Common.{common_steps, ◌≡◌, length, arith, ap, sym, ◌∙◌, ordering_then, length-take, Texts, text_cmp, list_at, last_text}
 use Rattle.cadf_pathset.proofs.Arena.{one_longer}
 use Rattle.cadf_pathset.proofs.Forks.{fork_found, fork_up, no_fork}
 use Rattle.cadf_pathset.proofs.Orders.{cmp_lengths, cmp_up, cmp_same}

@@ -1,8 +1,4 @@
-use Rattle.std.proofs.Common.{◌≡◌, ◌≤◌, length}
-use Rattle.std.specs.Ordering.{ordering_then}
-use Rattle.cadf_join.specs.Contents.{texts_cmp}
-use Rattle.cadf_pathset.specs.Fork.{IsForkAt}
-use Rattle.cadf_pathset.specs.Nodes.{list_at}
+use Rattle.cadf_pathset.proofs.Common.{◌≡◌, ◌≤◌, length, ordering_then, texts_cmp, IsForkAt, list_at}
 use Rattle.cadf_pathset.proofs.sort.parting_cmp.Given as goal
 
 abbrev pub invariant-loop-a : goal.invariant-loop-a

@@ -1,6 +1,4 @@
-use Rattle.std.proofs.Common.{◌++◌, sym, ap, ◌∙◌}
-use Rattle.cadf_join.specs.Contents.{text_cmp}
-use Rattle.cadf_pathset.specs.Nodes.{last_text, list_at}
+use Rattle.cadf_pathset.proofs.Common.{◌++◌, sym, ap, ◌∙◌, text_cmp, last_text, list_at}
 use Rattle.cadf_pathset.proofs.Forks.{fork_at}
 use Rattle.cadf_pathset.proofs.sort.sibling_fork.Goals as goal
 

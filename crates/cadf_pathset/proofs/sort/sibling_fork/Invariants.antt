@@ -1,6 +1,4 @@
-use Rattle.std.proofs.Common.{◌≡◌, ◌≤◌, ◌<◌, ◌+◌, ◌++◌, [], ◌∷◌, length}
-use Rattle.cadf_join.specs.Contents.{Texts}
-use Rattle.cadf_pathset.specs.Nodes.{last_text, list_at}
+use Rattle.cadf_pathset.proofs.Common.{◌≡◌, ◌≤◌, ◌<◌, ◌+◌, ◌++◌, [], ◌∷◌, length, Texts, last_text, list_at}
 use Rattle.cadf_pathset.proofs.sort.sibling_fork.Given as goal
 
 abbrev pub invariant-loop-a : goal.invariant-loop-a

@@ -1,11 +1,4 @@
-use Rattle.std.proofs.Common.{rules}
-use Rattle.std.proofs.lemmas.Grind.{common_steps}
-use Rattle.std.proofs.Common.{◌≤◌, length, ap, sym, ◌∙◌, reverse, refl, arith}
-use Rattle.std.proofs.lemmas.Result.{err_from_is_err_and}
-use Rattle.std.proofs.lemmas.List.{take_all}
-use Rattle.cadf_line.specs.Digest.{atom_digest}
-use Rattle.cadf_rehearsal.specs.Schedule.{after}
-use Rattle.cadf_rehearsal.specs.Federation.{world_of}
+use Rattle.cadf_rehearsal.proofs.Common.{rules, common_steps, ◌≤◌, length, ap, sym, ◌∙◌, reverse, refl, arith, err_from_is_err_and, take_all, atom_digest, after, world_of}
 use Rattle.cadf_rehearsal.proofs.Played.{after_more, after_refused}
 use Rattle.cadf_rehearsal.proofs.Seen.{left_is}
 use Rattle.cadf_rehearsal.proofs.federation.rehearse.Goals as goal

@@ -1,7 +1,4 @@
-use Rattle.std.proofs.Common.{◌≡◌, length, reverse, take, Ok}
-use Rattle.cadf_line.specs.Digest.{atom_digest}
-use Rattle.cadf_rehearsal.specs.Schedule.{after}
-use Rattle.cadf_rehearsal.specs.Federation.{world_of, IsOneLog}
+use Rattle.cadf_rehearsal.proofs.Common.{◌≡◌, length, reverse, take, Ok, atom_digest, after, world_of, IsOneLog}
 use Rattle.cadf_rehearsal.proofs.federation.rehearse.Given as goal
 
 abbrev pub invariant-loop-i : goal.invariant-loop-i

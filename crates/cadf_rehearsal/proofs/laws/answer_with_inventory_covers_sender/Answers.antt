@@ -1,8 +1,5 @@
-use Rattle.std.proofs.Common.{inl, inr, sym, subst}
-use Rattle.cadf_join.specs.Contents.{Has}
-use Rattle.cadf_join.specs.laws.Contents.{texts_total, texts_same}
+use Rattle.cadf_rehearsal.proofs.Common.{inl, inr, sym, subst, Has, texts_total, texts_same, missing_or_held, missing_by_is}
 use Rattle.cadf_join.proofs.Members as members
-use Rattle.cadf_line.proofs.Missing.{missing_or_held, missing_by_is}
 use Rattle.cadf_rehearsal.proofs.Schedule.{messages_mean}
 use Rattle.cadf_rehearsal.proofs.laws.answer_with_inventory_covers_sender.Goals as goal
 

@@ -1,4 +1,4 @@
-use Rattle.std.proofs.Common.{Some, None, arith}
+use Rattle.cadf_script.proofs.Common.{Some, None, arith}
 use Rattle.cadf_script.proofs.Cuts.{cut_at, place_of, uncut_at}
 use Rattle.cadf_script.proofs.line.cut_at_blank.Goals as goal
 

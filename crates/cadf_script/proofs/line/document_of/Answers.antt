@@ -1,4 +1,4 @@
-use Rattle.cadf_event.proofs.BytesFaults.{no_bytes_fault_each}
+use Rattle.cadf_script.proofs.Common.{no_bytes_fault_each}
 use Rattle.cadf_script.proofs.line.document_of.Goals as goal
 
 pub returns-in_default : goal.returns-in_default

@@ -1,8 +1,4 @@
-use Rattle.std.proofs.lemmas.Grind.{common_steps}
-use Rattle.std.proofs.Common.{◌≡◌, ◌∙◌, None, Ok, sym, subst, arith}
-use Rattle.std.specs.Prelude.{IsUtf8}
-use Rattle.std.specs.Result.{result_ok}
-use Rattle.std.specs.Str.Parse.{ParsesUnsigned}
+use Rattle.cadf_script.proofs.Common.{common_steps, ◌≡◌, ◌∙◌, None, Ok, sym, subst, arith, IsUtf8, result_ok, ParsesUnsigned}
 use Rattle.cadf_script.proofs.Numbers.{not_plain, not_text, is_number, not_number}
 use Rattle.cadf_script.proofs.line.number.Goals as goal
 

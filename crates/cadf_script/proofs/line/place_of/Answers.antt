@@ -1,5 +1,4 @@
-use Rattle.std.proofs.lemmas.Grind.{common_steps}
-use Rattle.std.proofs.Common.{arith}
+use Rattle.cadf_script.proofs.Common.{common_steps, arith}
 use Rattle.cadf_script.proofs.Cuts.{place_of, place_within}
 use Rattle.cadf_script.proofs.line.place_of.Goals as goal
 

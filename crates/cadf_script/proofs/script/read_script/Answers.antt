@@ -1,4 +1,4 @@
-use Rattle.std.proofs.Common.{◌≡◌, length, [], ◌∷◌, ◌++◌, rules}
+use Rattle.cadf_script.proofs.Common.{◌≡◌, length, [], ◌∷◌, ◌++◌, rules}
 use Rattle.cadf_script.proofs.Lines.{at_end, line_read, line_bad}
 use Rattle.cadf_script.proofs.script.read_script.Goals as goal
 

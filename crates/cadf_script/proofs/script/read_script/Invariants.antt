@@ -1,4 +1,4 @@
-use Rattle.std.proofs.Common.{length, ◌-◌}
+use Rattle.cadf_script.proofs.Common.{length, ◌-◌}
 use Rattle.cadf_script.proofs.Lines.{HasRead}
 use Rattle.cadf_script.proofs.script.read_script.Given as goal
 

@@ -1,4 +1,4 @@
-use Rattle.std.proofs.Common.{refl}
+use Rattle.cadf_seal.proofs.Common.{refl}
 use Rattle.cadf_seal.proofs.SealLemmas.{accepts-seals, seal_is}
 use Rattle.cadf_seal.proofs.laws.seal_is_read_back.Goals as goal
 

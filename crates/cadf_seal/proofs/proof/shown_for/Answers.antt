@@ -1,7 +1,4 @@
-use Rattle.std.proofs.Common.{◌∙◌, ◌++◌, None, drop, length, sym, ap, subst, arith}
-use Rattle.cadf_inventory.proofs.RisingLists.{rising_set}
-use Rattle.cadf_seal.specs.Facts.{facts_left, AreAscending}
-use Rattle.cadf_seal.specs.Shown.{first_leaf, needs, shown}
+use Rattle.cadf_seal.proofs.Common.{◌∙◌, ◌++◌, None, drop, length, sym, ap, subst, arith, rising_set, facts_left, AreAscending, first_leaf, needs, shown}
 use Rattle.cadf_seal.proofs.ShownLemmas.{shown_more, head_of, rest_of, tail_ascends, above_ascend, next_left}
 use Rattle.cadf_seal.proofs.proof.shown_for.Goals as goal
 

@@ -1,8 +1,4 @@
-use Rattle.std.proofs.Common.{◌≡◌, ◌+◌, ◌++◌, None, length, drop}
-use Rattle.cadf_join.specs.Sets.{rising}
-use Rattle.cadf_seal.specs.Facts.{facts_left, AreAscending}
-use Rattle.cadf_seal.specs.ProofFile.{shown_for}
-use Rattle.cadf_seal.specs.Shown.{shown}
+use Rattle.cadf_seal.proofs.Common.{◌≡◌, ◌+◌, ◌++◌, None, length, drop, rising, facts_left, AreAscending, shown_for, shown}
 use Rattle.cadf_seal.proofs.proof.shown_for.Given as goal
 
 -- the leaves so far and those that the facts left need of the leaves left are all

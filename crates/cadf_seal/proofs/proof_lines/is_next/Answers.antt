@@ -1,8 +1,4 @@
-use Rattle.std.proofs.Common.{◌∙◌, ap, sym}
-use Rattle.std.specs.Prelude.{◌&&◌}
-use Rattle.std.specs.Ordering.{is_lt}
-use Rattle.std.proofs.lemmas.Bool.{lt-ltb, le-ltb}
-use Rattle.cadf_join.specs.Contents.{text_cmp}
+use Rattle.cadf_seal.proofs.Common.{◌∙◌, ap, sym, ◌&&◌, is_lt, lt-ltb, le-ltb, text_cmp}
 use Rattle.cadf_seal.proofs.ProofLineLemmas.{next_is}
 use Rattle.cadf_seal.proofs.proof_lines.is_next.Goals as goal
 

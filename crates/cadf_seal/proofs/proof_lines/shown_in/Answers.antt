@@ -1,7 +1,4 @@
-use Rattle.std.proofs.lemmas.Grind.{common_steps}
-use Rattle.std.proofs.Common.{◌∙◌, arith}
-use Rattle.cadf_sketch.proofs.LineLemmas.{prefixed}
-use Rattle.cadf_seal.specs.ProofVerdict.{leaf_in_words}
+use Rattle.cadf_seal.proofs.Common.{common_steps, ◌∙◌, arith, prefixed, leaf_in_words}
 use Rattle.cadf_seal.proofs.ProofLineLemmas.{no_words, no_place, no_last, leaf_read}
 use Rattle.cadf_seal.proofs.proof_lines.shown_in.Goals as goal
 

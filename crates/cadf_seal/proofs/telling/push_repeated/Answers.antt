@@ -1,4 +1,4 @@
-use Rattle.std.proofs.Common.{rules}
+use Rattle.cadf_seal.proofs.Common.{rules}
 use Rattle.cadf_seal.proofs.Repeating.{counted_again}
 use Rattle.cadf_seal.proofs.telling.push_repeated.Goals as goal
 

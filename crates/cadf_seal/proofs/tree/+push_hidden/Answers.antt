@@ -1,6 +1,4 @@
-use Rattle.std.proofs.lemmas.Grind.{common_steps}
-use Rattle.std.proofs.Common.{◌∙◌, sym, arith, length-drop}
-use Rattle.cadf_join.proofs.Outcome.{on_ok_then}
+use Rattle.cadf_seal.proofs.Common.{common_steps, ◌∙◌, sym, arith, length-drop, on_ok_then}
 use Rattle.cadf_seal.proofs.HiddenLemmas.{both_hidden}
 use Rattle.cadf_seal.proofs.Trees.{half, halves}
 use Rattle.cadf_seal.proofs.tree.+push_hidden.Goals as goal

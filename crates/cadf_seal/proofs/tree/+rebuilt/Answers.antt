@@ -1,5 +1,4 @@
-use Rattle.std.proofs.lemmas.Grind.{common_steps}
-use Rattle.std.proofs.Common.{arith}
+use Rattle.cadf_seal.proofs.Common.{common_steps, arith}
 use Rattle.cadf_seal.proofs.Trees.{half, halves}
 use Rattle.cadf_seal.proofs.tree.+rebuilt.Goals as goal
 

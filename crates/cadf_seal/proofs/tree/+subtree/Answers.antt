@@ -1,5 +1,4 @@
-use Rattle.std.proofs.lemmas.Grind.{common_steps}
-use Rattle.std.proofs.Common.{arith, length-drop}
+use Rattle.cadf_seal.proofs.Common.{common_steps, arith, length-drop}
 use Rattle.cadf_seal.proofs.Trees.{half, halves, next_beyond}
 use Rattle.cadf_seal.proofs.tree.+subtree.Goals as goal
 

@@ -1,5 +1,4 @@
-use Rattle.std.proofs.lemmas.Grind.{common_steps}
-use Rattle.std.proofs.Common.{arith}
+use Rattle.cadf_seal.proofs.Common.{common_steps, arith}
 use Rattle.cadf_seal.proofs.HiddenLemmas.{hidden_all, none_hidden}
 use Rattle.cadf_seal.proofs.Sound.{places_rise}
 use Rattle.cadf_seal.proofs.tree.hidden_for.Goals as goal

@@ -1,7 +1,4 @@
-use Rattle.std.proofs.lemmas.Grind.{common_steps}
-use Rattle.std.proofs.Common.{◌∙◌, arith, sym, subst, ap}
-use Rattle.cadf_seal.specs.Shown.{rebuilt}
-use Rattle.cadf_seal.specs.Verified.{root_from, PlacesRise}
+use Rattle.cadf_seal.proofs.Common.{common_steps, ◌∙◌, arith, sym, subst, ap, rebuilt, root_from, PlacesRise}
 use Rattle.cadf_seal.proofs.Sound.{places_rise}
 use Rattle.cadf_seal.proofs.Splitting.{alone_if, root_without, root_with}
 use Rattle.cadf_seal.proofs.tree.root_of_proof.Goals as goal

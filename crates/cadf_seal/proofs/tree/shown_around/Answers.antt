@@ -1,7 +1,4 @@
-use Rattle.std.proofs.Common.{◌∙◌, sym, subst, rules}
-use Rattle.std.specs.Prelude.{nat_le, nat_lt}
-use Rattle.std.proofs.lemmas.List.Sorted.{IsPartitionPoint-from_clause}
-use Rattle.cadf_seal.specs.Verified.{PlacesRise}
+use Rattle.cadf_seal.proofs.Common.{◌∙◌, sym, subst, rules, nat_le, nat_lt, IsPartitionPoint-from_clause, PlacesRise}
 use Rattle.cadf_seal.proofs.Splitting.{parted, not_before, yet_before, first_part, second_part, all_true, until_rises, from_rises}
 use Rattle.cadf_seal.proofs.tree.shown_around.Goals as goal
 

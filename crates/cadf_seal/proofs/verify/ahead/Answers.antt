@@ -1,5 +1,4 @@
-use Rattle.std.proofs.lemmas.Grind.{common_steps}
-use Rattle.std.proofs.Common.{arith}
+use Rattle.cadf_seal.proofs.Common.{common_steps, arith}
 use Rattle.cadf_seal.proofs.Deciding.{ahead_first}
 use Rattle.cadf_seal.proofs.verify.ahead.Goals as goal
 

@@ -1,5 +1,4 @@
-use Rattle.std.proofs.lemmas.Grind.{common_steps}
-use Rattle.std.proofs.Common.{arith}
+use Rattle.cadf_seal.proofs.Common.{common_steps, arith}
 use Rattle.cadf_seal.proofs.Deciding.{behind_last}
 use Rattle.cadf_seal.proofs.verify.behind.Goals as goal
 

@@ -1,7 +1,4 @@
-use Rattle.std.proofs.Common.{◌∙◌, ◌+◌, [], ap, sym}
-use Rattle.cadf_join.specs.Sets.{rising}
-use Rattle.cadf_seal.specs.Shown.{needs}
-use Rattle.cadf_seal.specs.Verified.{first_digest}
+use Rattle.cadf_seal.proofs.Common.{◌∙◌, ◌+◌, [], ap, sym, rising, needs, first_digest}
 use Rattle.cadf_seal.proofs.Needed.{needed_leaf, unneeded_leaf}
 use Rattle.cadf_seal.proofs.Splitting.{last_part}
 use Rattle.cadf_seal.proofs.verify.first_unneeded.Goals as goal

@@ -1,6 +1,4 @@
-use Rattle.std.proofs.Common.{◌≡◌, ◌+◌, drop, None}
-use Rattle.cadf_join.specs.Sets.{rising}
-use Rattle.cadf_seal.specs.Verified.{unneeded}
+use Rattle.cadf_seal.proofs.Common.{◌≡◌, ◌+◌, drop, None, rising, unneeded}
 use Rattle.cadf_seal.proofs.verify.first_unneeded.Given as goal
 
 abbrev pub invariant-loop-index : goal.invariant-loop-index

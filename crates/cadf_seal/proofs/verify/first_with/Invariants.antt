@@ -1,6 +1,4 @@
-use Rattle.std.proofs.Common.{◌≡◌, ◌+◌, drop}
-use Rattle.std.specs.List.{position_from}
-use Rattle.cadf_seal.specs.Verified.{state, is_state}
+use Rattle.cadf_seal.proofs.Common.{◌≡◌, ◌+◌, drop, position_from, state, is_state}
 use Rattle.cadf_seal.proofs.verify.first_with.Given as goal
 
 abbrev pub invariant-loop-index : goal.invariant-loop-index

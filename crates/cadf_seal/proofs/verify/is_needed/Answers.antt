@@ -1,6 +1,4 @@
-use Rattle.std.proofs.Common.{◌∙◌, ap, Some, None}
-use Rattle.cadf_join.specs.Contents.{next_after}
-use Rattle.cadf_seal.specs.Verified.{first_digest}
+use Rattle.cadf_seal.proofs.Common.{◌∙◌, ap, Some, None, next_after, first_digest}
 use Rattle.cadf_seal.proofs.Needed.{needs_by}
 use Rattle.cadf_seal.proofs.verify.is_needed.Goals as goal
 

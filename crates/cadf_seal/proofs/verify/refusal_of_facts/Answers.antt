@@ -1,6 +1,4 @@
-use Rattle.std.proofs.lemmas.Grind.{common_steps}
-use Rattle.std.proofs.Common.{arith}
-use Rattle.cadf_line.proofs.SpelledLines.{noted_rising}
+use Rattle.cadf_seal.proofs.Common.{common_steps, arith, noted_rising}
 use Rattle.cadf_seal.proofs.verify.refusal_of_facts.Goals as goal
 
 pub returns-in-Some-first_unneeded : goal.returns-in-Some-first_unneeded

@@ -1,8 +1,4 @@
-use Rattle.std.proofs.lemmas.Grind.{common_steps}
-use Rattle.std.proofs.Common.{◌≡◌, ◌∙◌, ap, drop, rules, arith}
-use Rattle.std.proofs.lemmas.Fn.{always_returns_same}
-use Rattle.cadf_join.specs.Contents.{text_cmp}
-use Rattle.cadf_seal.specs.Verified.{lowest_place}
+use Rattle.cadf_seal.proofs.Common.{common_steps, ◌≡◌, ◌∙◌, ap, drop, rules, arith, always_returns_same, text_cmp, lowest_place}
 use Rattle.cadf_seal.proofs.Rebuilding.{all_map}
 use Rattle.cadf_seal.proofs.Sound.{places_rise}
 use Rattle.cadf_seal.proofs.Splitting.{last_part}

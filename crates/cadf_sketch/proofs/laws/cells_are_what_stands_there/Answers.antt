@@ -1,8 +1,4 @@
-use Rattle.std.proofs.lemmas.Grind.{common_steps}
-use Rattle.std.proofs.Common.{arith}
-use Rattle.std.proofs.lemmas.List.{length-replicate}
-use Rattle.cadf_join.specs.Sets.{rising}
-use Rattle.cadf_sketch.specs.Sketches.{cells_of, sketch_of}
+use Rattle.cadf_sketch.proofs.Common.{common_steps, arith, length-replicate, rising, cells_of, sketch_of}
 use Rattle.cadf_sketch.proofs.CellLemmas.{at_sketched, length-toggled_all}
 use Rattle.cadf_sketch.proofs.laws.cells_are_what_stands_there.Goals as goal
 

@@ -1,8 +1,4 @@
-use Rattle.std.proofs.Common.{rules, replicate, refl}
-use Rattle.std.proofs.lemmas.List.{get_or-replicate}
-use Rattle.cadf_join.specs.Sets.{rising}
-use Rattle.cadf_sketch.specs.Sketches.{sketch_of}
-use Rattle.cadf_sketch.specs.Tallies.{tally_of}
+use Rattle.cadf_sketch.proofs.Common.{rules, replicate, refl, get_or-replicate, rising, sketch_of, tally_of}
 use Rattle.cadf_sketch.proofs.TallyLemmas.{tallied_digests, tallied_ones}
 use Rattle.cadf_sketch.proofs.laws.counts_are_of_the_digests.Goals as goal
 

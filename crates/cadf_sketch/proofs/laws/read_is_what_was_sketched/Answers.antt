@@ -1,9 +1,4 @@
-use Rattle.std.proofs.Common.{◌∙◌, ap}
-use Rattle.cadf_line.specs.Digest.{atom_digest}
-use Rattle.cadf_line.specs.Missing.{missing_by}
-use Rattle.cadf_line.proofs.Missing.{missing_by_is}
-use Rattle.cadf_inventory.specs.InventoryFile.{inventory_digest}
-use Rattle.cadf_sketch.specs.Sketches.{sketch_of}
+use Rattle.cadf_sketch.proofs.Common.{◌∙◌, ap, atom_digest, missing_by, missing_by_is, inventory_digest, sketch_of}
 use Rattle.cadf_sketch.proofs.DigestLemmas.{same_inventory}
 use Rattle.cadf_sketch.proofs.laws.read_is_what_was_sketched.Goals as goal
 

@@ -1,4 +1,4 @@
-use Rattle.std.proofs.Common.{refl}
+use Rattle.cadf_sketch.proofs.Common.{refl}
 use Rattle.cadf_sketch.proofs.SketchFileLemmas.{accepts-sketches, sketch_is}
 use Rattle.cadf_sketch.proofs.laws.sketch_is_read_back.Goals as goal
 

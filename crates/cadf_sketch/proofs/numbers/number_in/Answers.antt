@@ -1,8 +1,4 @@
-use Rattle.std.proofs.lemmas.Grind.{common_steps}
-use Rattle.std.proofs.Common.{◌≡◌, ◌<◌, ◌^◌, ◌∙◌, ap, subst, arith}
-use Rattle.std.specs.Bool.{then_some}
-use Rattle.std.specs.Str.{bytes_eq}
-use Rattle.std.specs.Str.Parse.{ParsesUnsigned}
+use Rattle.cadf_sketch.proofs.Common.{common_steps, ◌≡◌, ◌<◌, ◌^◌, ◌∙◌, ap, subst, arith, then_some, bytes_eq, ParsesUnsigned}
 use Rattle.cadf_sketch.proofs.NumberLemmas.{number_not_text, number_not_parsed, number_read}
 use Rattle.cadf_sketch.proofs.numbers.number_in.Goals as goal
 

@@ -1,7 +1,4 @@
-use Rattle.std.proofs.Common.{◌≡◌, ◌<◌, ℕ, true, vec_len}
-use Rattle.std.specs.Prelude.{nat_eq}
-use Rattle.std.specs.List.{list_any}
-use Rattle.cadf_sketch.specs.Peeling.{ArePlaces}
+use Rattle.cadf_sketch.proofs.Common.{◌≡◌, ◌<◌, ℕ, true, vec_len, nat_eq, list_any, ArePlaces}
 use Rattle.cadf_sketch.proofs.peel.all_places.Given as goal
 
 abbrev pub invariant-loop-place : goal.invariant-loop-place

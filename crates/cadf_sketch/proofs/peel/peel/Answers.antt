@@ -1,5 +1,4 @@
-use Rattle.std.proofs.lemmas.Grind.{common_steps}
-use Rattle.std.proofs.Common.{arith, slice_index_or}
+use Rattle.cadf_sketch.proofs.Common.{common_steps, arith, slice_index_or}
 use Rattle.cadf_sketch.proofs.PeelLemmas.{peels_none}
 use Rattle.cadf_sketch.proofs.peel.peel.Goals as goal
 

@@ -1,5 +1,4 @@
-use Rattle.std.proofs.Common.{◌≡◌, ◌-◌, ◌+◌, ◌*◌, ◌≤◌, length, vec_len}
-use Rattle.cadf_sketch.specs.Peeling.{Peels, Awaits, ArePlaces}
+use Rattle.cadf_sketch.proofs.Common.{◌≡◌, ◌-◌, ◌+◌, ◌*◌, ◌≤◌, length, vec_len, Peels, Awaits, ArePlaces}
 use Rattle.cadf_sketch.proofs.peel.peel.Given as goal
 
 abbrev pub invariant-takes : goal.invariant-takes

@@ -1,5 +1,4 @@
-use Rattle.std.proofs.lemmas.Grind.{common_steps}
-use Rattle.std.proofs.Common.{arith}
+use Rattle.cadf_sketch.proofs.Common.{common_steps, arith}
 use Rattle.cadf_sketch.proofs.PeelLemmas.{peels_more}
 use Rattle.cadf_sketch.proofs.PendingLemmas.{awaits_taken}
 use Rattle.cadf_sketch.proofs.peel.take_lone.Goals as goal

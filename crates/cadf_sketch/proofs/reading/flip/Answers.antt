@@ -1,5 +1,4 @@
-use Rattle.std.proofs.lemmas.Grind.{common_steps}
-use Rattle.std.proofs.Common.{arith}
+use Rattle.cadf_sketch.proofs.Common.{common_steps, arith}
 use Rattle.cadf_sketch.proofs.FlipLemmas.{apart-insert, apart-remove, flipped_in_turn, flipped_in_turn_is}
 use Rattle.cadf_sketch.proofs.reading.flip.Goals as goal
 

@@ -1,4 +1,4 @@
-use Rattle.std.proofs.Common.{◌≡◌}
+use Rattle.cadf_sketch.proofs.Common.{◌≡◌}
 use Rattle.cadf_join.specs.Sets as set
 use Rattle.cadf_sketch.proofs.FlipLemmas.{flipped_in_turn}
 use Rattle.cadf_sketch.proofs.reading.flip.Given as goal

@@ -1,7 +1,4 @@
-use Rattle.std.proofs.lemmas.Grind.{common_steps}
-use Rattle.std.proofs.Common.{◌≡◌, ◌*◌, ◌⊎◌, length, subst, arith}
-use Rattle.cadf_sketch.specs.Flips.{apart, flipped}
-use Rattle.cadf_sketch.specs.Peeling.{HasNoLone}
+use Rattle.cadf_sketch.proofs.Common.{common_steps, ◌≡◌, ◌*◌, ◌⊎◌, length, subst, arith, apart, flipped, HasNoLone}
 use Rattle.cadf_sketch.proofs.FlipLemmas.{apart_twice}
 use Rattle.cadf_sketch.proofs.PeelLemmas.{peels_same}
 use Rattle.cadf_sketch.proofs.WholeLemmas.{peeled_are}

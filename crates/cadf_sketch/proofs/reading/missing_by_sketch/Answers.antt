@@ -1,5 +1,4 @@
-use Rattle.std.proofs.Common.{◌∙◌, ap, sym}
-use Rattle.cadf_inventory.proofs.InventoryVerdictLemmas.{inventory_is}
+use Rattle.cadf_sketch.proofs.Common.{◌∙◌, ap, sym, inventory_is}
 use Rattle.cadf_sketch.proofs.reading.missing_by_sketch.Goals as goal
 
 pub returns-in-Ok-clause-ok : goal.returns-in-Ok-clause-ok

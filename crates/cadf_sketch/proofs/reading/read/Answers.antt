@@ -1,8 +1,4 @@
-use Rattle.std.proofs.lemmas.Grind.{common_steps}
-use Rattle.std.proofs.Common.{arith, ◌∙◌, ap}
-use Rattle.std.proofs.lemmas.Slice.Eq.{bytes_eq-Decides}
-use Rattle.cadf_join.specs.Sets.{rising}
-use Rattle.cadf_sketch.specs.Tallies.{tally_of, cells_to_ask}
+use Rattle.cadf_sketch.proofs.Common.{common_steps, arith, ◌∙◌, ap, bytes_eq-Decides, rising, tally_of, cells_to_ask}
 use Rattle.cadf_sketch.proofs.reading.read.Goals as goal
 
 pub returns-then-ne-clause-err : goal.returns-then-ne-clause-err

@@ -1,6 +1,4 @@
-use Rattle.std.proofs.Common.{◌≡◌}
-use Rattle.cadf_join.specs.Sets.{rising}
-use Rattle.cadf_sketch.specs.Tallies.{tallied_all, tally_of}
+use Rattle.cadf_sketch.proofs.Common.{◌≡◌, rising, tallied_all, tally_of}
 use Rattle.cadf_sketch.proofs.sketch.tally.Given as goal
 
 abbrev pub invariant-loop-digest : goal.invariant-loop-digest

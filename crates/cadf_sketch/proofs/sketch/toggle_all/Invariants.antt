@@ -1,6 +1,4 @@
-use Rattle.std.proofs.Common.{◌≡◌, length}
-use Rattle.cadf_join.specs.Sets.{rising}
-use Rattle.cadf_sketch.specs.Cells.{toggled_all}
+use Rattle.cadf_sketch.proofs.Common.{◌≡◌, length, rising, toggled_all}
 use Rattle.cadf_sketch.proofs.sketch.toggle_all.Given as goal
 
 abbrev pub invariant-loop-digest : goal.invariant-loop-digest

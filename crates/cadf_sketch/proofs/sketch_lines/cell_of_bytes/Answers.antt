@@ -1,6 +1,4 @@
-use Rattle.std.proofs.Common.{◌∙◌, ap, drop, length-drop, arith}
-use Rattle.std.specs.Int.{w64, from_be_bytes}
-use Rattle.std.proofs.lemmas.List.{take_all}
+use Rattle.cadf_sketch.proofs.Common.{◌∙◌, ap, drop, length-drop, arith, w64, from_be_bytes, take_all}
 use Rattle.cadf_sketch.proofs.sketch_lines.cell_of_bytes.Goals as goal
 
 pub returns : goal.returns

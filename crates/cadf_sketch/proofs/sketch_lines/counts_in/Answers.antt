@@ -1,5 +1,4 @@
-use Rattle.std.proofs.Common.{◌≡◌, ◌∙◌, ◌+◌, ◌-◌, ◌∷◌, [], Some, suc, ap, sym, subst, take, rules, arith}
-use Rattle.std.proofs.lemmas.List.{take_more_set}
+use Rattle.cadf_sketch.proofs.Common.{◌≡◌, ◌∙◌, ◌+◌, ◌-◌, ◌∷◌, [], Some, suc, ap, sym, subst, take, rules, arith, take_more_set}
 use Rattle.cadf_sketch.proofs.NumberLemmas.{AreCounts, counts_begin, count_uncut, count_missing, count_read, last_count, last_set}
 use Rattle.cadf_sketch.proofs.sketch_lines.counts_in.Goals as goal
 

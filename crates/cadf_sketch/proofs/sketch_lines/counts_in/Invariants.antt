@@ -1,4 +1,4 @@
-use Rattle.std.proofs.Common.{◌≡◌, ◌∷◌, ◌-◌, length, take}
+use Rattle.cadf_sketch.proofs.Common.{◌≡◌, ◌∷◌, ◌-◌, length, take}
 use Rattle.cadf_sketch.proofs.NumberLemmas.{AreCounts}
 use Rattle.cadf_sketch.proofs.sketch_lines.counts_in.Given as goal
 

@@ -1,6 +1,4 @@
-use Rattle.std.proofs.lemmas.Grind.{common_steps}
-use Rattle.std.proofs.Common.{◌∙◌, arith}
-use Rattle.cadf_sketch.specs.SketchVerdict.{head_in_words}
+use Rattle.cadf_sketch.proofs.Common.{common_steps, ◌∙◌, arith, head_in_words}
 use Rattle.cadf_sketch.proofs.LineLemmas.{prefixed, head_uncut, head_uncut_twice, no_layout, no_last, head_read}
 use Rattle.cadf_sketch.proofs.sketch_lines.head_in.Goals as goal
 

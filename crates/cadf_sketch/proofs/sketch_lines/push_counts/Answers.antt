@@ -1,5 +1,4 @@
-use Rattle.std.proofs.lemmas.Grind.{common_steps}
-use Rattle.std.proofs.Common.{arith}
+use Rattle.cadf_sketch.proofs.Common.{common_steps, arith}
 use Rattle.cadf_sketch.proofs.sketch_lines.push_counts.Goals as goal
 
 pub loop-count-preserved : goal.loop-count-preserved

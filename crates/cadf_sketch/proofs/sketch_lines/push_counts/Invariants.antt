@@ -1,5 +1,4 @@
-use Rattle.std.proofs.Common.{◌≡◌, ◌++◌, ◌∷◌, drop}
-use Rattle.std.specs.Prelude.{decimal, flat_map}
+use Rattle.cadf_sketch.proofs.Common.{◌≡◌, ◌++◌, ◌∷◌, drop, decimal, flat_map}
 use Rattle.cadf_sketch.proofs.sketch_lines.push_counts.Given as goal
 
 -- the line so far and the counts that are left are the whole line

@@ -1,5 +1,4 @@
-use Rattle.std.proofs.lemmas.Grind.{common_steps}
-use Rattle.std.proofs.Common.{◌≡◌, ◌-◌, ◌+◌, ◌/◌, ◌%◌, ◌^◌, ℕ, length, get_or, set, subst, arith}
+use Rattle.cadf_sketch.proofs.Common.{common_steps, ◌≡◌, ◌-◌, ◌+◌, ◌/◌, ◌%◌, ◌^◌, ℕ, length, get_or, set, subst, arith}
 use Rattle.cadf_sketch.proofs.TallyLemmas.{HasBitsBelow, one_more_bit, all_bits}
 use Rattle.cadf_sketch.proofs.tally.add_bits.Goals as goal
 

@@ -1,5 +1,4 @@
-use Rattle.std.proofs.Common.{◌≡◌, ◌∙◌, ap, arith}
-use Rattle.cadf_sketch.specs.Tallies.{squares}
+use Rattle.cadf_sketch.proofs.Common.{◌≡◌, ◌∙◌, ap, arith, squares}
 use Rattle.cadf_sketch.proofs.tally.squares.Goals as goal
 
 pub returns-clause-value : goal.returns-clause-value

@@ -1,5 +1,4 @@
-use Rattle.std.proofs.Common.{◌≡◌, ◌≤◌, ◌*◌, ◌^◌}
-use Rattle.cadf_sketch.specs.Tallies.{squares}
+use Rattle.cadf_sketch.proofs.Common.{◌≡◌, ◌≤◌, ◌*◌, ◌^◌, squares}
 use Rattle.cadf_sketch.proofs.tally.squares.Given as goal
 
 abbrev pub invariant-loop-bit : goal.invariant-loop-bit

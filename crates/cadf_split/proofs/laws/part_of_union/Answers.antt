@@ -1,4 +1,4 @@
-use Rattle.cadf_split.specs.Windows.{key}
+use Rattle.cadf_split.proofs.Common.{key}
 use Rattle.cadf_split.proofs.Parts.{part-union}
 use Rattle.cadf_split.proofs.laws.part_of_union.Goals as goal
 

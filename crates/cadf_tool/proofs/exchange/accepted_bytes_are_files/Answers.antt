@@ -1,6 +1,4 @@
-use Rattle.std.proofs.Common.{map}
-use Rattle.cadf_tool.specs.Inputs.{source_state}
-use Rattle.cadf_tool.specs.Request.{task}
+use Rattle.cadf_tool.proofs.Common.{map, source_state, task}
 use Rattle.cadf_tool.proofs.Accepted.{accepted}
 use Rattle.cadf_tool.proofs.MadeByRuns.{run_ok}
 use Rattle.cadf_tool.proofs.exchange.accepted_bytes_are_files.Goals as goal

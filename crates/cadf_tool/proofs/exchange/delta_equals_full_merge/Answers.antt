@@ -1,5 +1,5 @@
 use Rattle.cadf_tool.proofs.ExchangeLaws.{part_as_whole, part_by_as_whole, part_by_sketch_as_whole}
-use Rattle.std.proofs.Common.{refl}
+use Rattle.cadf_tool.proofs.Common.{refl}
 use Rattle.cadf_tool.proofs.exchange.delta_equals_full_merge.Goals as goal
 
 pub returns-clause-by_file : goal.returns-clause-by_file

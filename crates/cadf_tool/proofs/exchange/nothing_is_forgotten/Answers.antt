@@ -1,4 +1,4 @@
-use Rattle.std.proofs.Common.{refl, sym}
+use Rattle.cadf_tool.proofs.Common.{refl, sym}
 use Rattle.cadf_tool.proofs.Brought.{brought_alone}
 use Rattle.cadf_tool.proofs.Forgotten.{ruled_whole, file_whole, parts_whole}
 use Rattle.cadf_tool.proofs.exchange.nothing_is_forgotten.Goals as goal

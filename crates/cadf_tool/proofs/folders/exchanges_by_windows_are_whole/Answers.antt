@@ -1,6 +1,4 @@
-use Rattle.std.proofs.Common.{None, sym, ◌∙◌}
-use Rattle.cadf_tool.specs.Exchange.{Joined}
-use Rattle.cadf_tool.specs.Folders.{all_files, arrived}
+use Rattle.cadf_tool.proofs.Common.{None, sym, ◌∙◌, Joined, all_files, arrived}
 use Rattle.cadf_tool.proofs.ExchangeLaws.{same_told}
 use Rattle.cadf_tool.proofs.FolderParts.{folder_together, exchanged_folder, folder_after, files_after}
 use Rattle.cadf_tool.proofs.folders.exchanges_by_windows_are_whole.Goals as goal

@@ -1,6 +1,4 @@
-use Rattle.std.proofs.Common.{None}
-use Rattle.cadf_tool.specs.Exchange.{Joined, brought}
-use Rattle.cadf_tool.specs.Folders.{all_files}
+use Rattle.cadf_tool.proofs.Common.{None, Joined, brought, all_files}
 use Rattle.cadf_tool.proofs.ExchangeLaws.{same_told}
 use Rattle.cadf_tool.proofs.FolderParts.{folder_together}
 use Rattle.cadf_tool.proofs.folders.folders_are_their_union.Goals as goal

@@ -1,4 +1,4 @@
-use Rattle.cadf_tool.specs.Exchange.{is_in_part}
+use Rattle.cadf_tool.proofs.Common.{is_in_part}
 use Rattle.cadf_tool.proofs.FolderParts.{split_is, part_derived, part_joined}
 use Rattle.cadf_tool.proofs.folders.parts_are_files.Goals as goal
 

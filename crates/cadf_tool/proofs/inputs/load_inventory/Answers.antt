@@ -1,7 +1,4 @@
-use Rattle.cadf_inventory.specs.InventoryFile.{IsInventory}
-use Rattle.cadf_inventory.specs.InventoryVerdict.{inventory_kind}
-use Rattle.cadf_inventory.proofs.InventoryVerdictLemmas.{accepts-inventories}
-use Rattle.cadf_tool.specs.Run.{transition_of}
+use Rattle.cadf_tool.proofs.Common.{IsInventory, inventory_kind, accepts-inventories, transition_of}
 use Rattle.cadf_tool.proofs.ModelReading.{if_model_read}
 use Rattle.cadf_tool.proofs.inputs.load_inventory.Goals as goal
 

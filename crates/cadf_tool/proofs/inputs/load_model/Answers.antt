@@ -1,6 +1,4 @@
-use Rattle.std.proofs.lemmas.Grind.{common_steps}
-use Rattle.std.proofs.Common.{arith}
-use Rattle.cadf_tool.specs.Run.{transition_of}
+use Rattle.cadf_tool.proofs.Common.{common_steps, arith, transition_of}
 use Rattle.cadf_tool.proofs.ModelReading.{if_model_read}
 use Rattle.cadf_tool.proofs.inputs.load_model.Goals as goal
 

@@ -1,5 +1,4 @@
-use Rattle.std.proofs.Common.{◌+◌, length, None}
-use Rattle.cadf_tool.specs.JoinState.{log_joined}
+use Rattle.cadf_tool.proofs.Common.{◌+◌, length, None, log_joined}
 use Rattle.cadf_tool.proofs.UnionDeltas.{parted}
 use Rattle.cadf_tool.proofs.missing.part.Goals as goal
 

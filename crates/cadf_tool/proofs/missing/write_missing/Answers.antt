@@ -1,6 +1,4 @@
-use Rattle.std.proofs.Common.{rules, ◌+◌, None, sym, ◌∙◌, subst}
-use Rattle.cadf_tool.specs.Inputs.{source_state}
-use Rattle.cadf_tool.specs.JoinState.{IsJoinState, log_joined}
+use Rattle.cadf_tool.proofs.Common.{rules, ◌+◌, None, sym, ◌∙◌, subst, source_state, IsJoinState, log_joined}
 use Rattle.cadf_tool.proofs.LoadedLists.{all_count}
 use Rattle.cadf_tool.proofs.Runs.{all_read, all_untouched, both_read, first_stopped, second_stopped, starved, stopped, worked_run}
 use Rattle.cadf_tool.proofs.SourceParts.{in_two_run}

@@ -1,4 +1,4 @@
-use Rattle.std.proofs.Common.{None}
+use Rattle.cadf_tool.proofs.Common.{None}
 use Rattle.cadf_tool.proofs.Runs.{on_ok_more}
 use Rattle.cadf_tool.proofs.UnionDeltas.{by_inventory}
 use Rattle.cadf_tool.proofs.missing_by.part.Goals as goal

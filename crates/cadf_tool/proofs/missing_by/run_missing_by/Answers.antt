@@ -1,6 +1,4 @@
-use Rattle.std.proofs.Common.{rules, None, [], ◌∷◌, subst}
-use Rattle.cadf_tool.specs.Run.{input_spec, IsWorked}
-use Rattle.cadf_tool.specs.ModelInput.{inventory_spec}
+use Rattle.cadf_tool.proofs.Common.{rules, None, [], ◌∷◌, subst, input_spec, IsWorked, inventory_spec}
 use Rattle.cadf_tool.proofs.Runs.{one_read, on_ok_more, second_run, stopped}
 use Rattle.cadf_tool.proofs.Unions.{first_place}
 use Rattle.cadf_tool.proofs.UnionDeltas.{part_by_one, number_two}

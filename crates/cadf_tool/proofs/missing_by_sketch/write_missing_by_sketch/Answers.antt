@@ -1,6 +1,4 @@
-use Rattle.std.proofs.Common.{rules, arith, ◌+◌, ◌≡◌, length, None, sym, ap, ◌∙◌}
-use Rattle.cadf_tool.specs.Inputs.{source_state}
-use Rattle.cadf_tool.specs.ModelInput.{sketch_spec}
+use Rattle.cadf_tool.proofs.Common.{rules, arith, ◌+◌, ◌≡◌, length, None, sym, ap, ◌∙◌, source_state, sketch_spec}
 use Rattle.cadf_tool.proofs.LoadedLists.{all_count}
 use Rattle.cadf_tool.proofs.Runs.{all_read, first_stopped, second_run, stopped}
 use Rattle.cadf_tool.proofs.SourceParts.{and_last_run}

@@ -1,8 +1,5 @@
-use Rattle.std.proofs.Common.{None}
-use Rattle.cadf_tool.specs.Join.{join_from}
-use Rattle.cadf_tool.specs.Prove.{proof_for}
+use Rattle.cadf_tool.proofs.Common.{None, join_from, proof_for, err_from_is_err_and}
 use Rattle.cadf_tool.proofs.Unions.{on_value, on_fault}
-use Rattle.std.proofs.lemmas.Result.{err_from_is_err_and}
 use Rattle.cadf_tool.proofs.prove.proof_by.Goals as goal
 
 pub returns : goal.returns

@@ -1,7 +1,4 @@
-use Rattle.std.proofs.Common.{None, Ok, Err, refl, rules, ap, ◌∙◌}
-use Rattle.std.proofs.lemmas.Result.{err_from_is_err_and}
-use Rattle.cadf_tool.specs.Inputs.{source_state}
-use Rattle.cadf_tool.specs.Run.{input_spec}
+use Rattle.cadf_tool.proofs.Common.{None, Ok, Err, refl, rules, ap, ◌∙◌, err_from_is_err_and, source_state, input_spec}
 use Rattle.cadf_tool.proofs.Runs.{one_read, all_read, all_untouched, both_read, first_stopped, second_stopped, stopped, worked_run}
 use Rattle.cadf_tool.proofs.SourceParts.{one_and_others_run}
 use Rattle.cadf_tool.proofs.prove.write_proof.Goals as goal

@@ -1,6 +1,4 @@
-use Rattle.std.proofs.Common.{◌≡◌, ◌++◌, drop}
-use Rattle.std.specs.Prelude.{string_bytes}
-use Rattle.cadf_tool.specs.Sites.{lines_from}
+use Rattle.cadf_tool.proofs.Common.{◌≡◌, ◌++◌, drop, string_bytes, lines_from}
 use Rattle.cadf_tool.proofs.rehearse.lines.Given as goal
 
 -- the lines so far, with those of the other sites, are all lines

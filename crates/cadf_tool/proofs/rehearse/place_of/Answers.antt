@@ -1,7 +1,4 @@
-use Rattle.std.proofs.Common.{◌≡◌, length, get_or, arith, sym, ◌∙◌, ap}
-use Rattle.std.proofs.lemmas.List.Sums.{position_or_len_is}
-use Rattle.std.proofs.lemmas.List.{get_or_default}
-use Rattle.cadf_tool.specs.Sites.{is_same}
+use Rattle.cadf_tool.proofs.Common.{◌≡◌, length, get_or, arith, sym, ◌∙◌, ap, position_or_len_is, get_or_default, is_same}
 use Rattle.cadf_tool.proofs.rehearse.place_of.Goals as goal
 
 pub returns-then-are_same : goal.returns-then-are_same

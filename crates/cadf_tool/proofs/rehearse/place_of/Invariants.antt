@@ -1,5 +1,4 @@
-use Rattle.std.proofs.Common.{◌≡◌, ◌<◌, ℕ, false, get_or}
-use Rattle.cadf_tool.specs.Sites.{is_same}
+use Rattle.cadf_tool.proofs.Common.{◌≡◌, ◌<◌, ℕ, false, get_or, is_same}
 use Rattle.cadf_tool.proofs.rehearse.place_of.Given as goal
 
 -- the sites so far are not the same as this one

@@ -1,5 +1,4 @@
-use Rattle.std.proofs.Common.{Ok, rules}
-use Rattle.cadf_tool.specs.Run.{transition_of}
+use Rattle.cadf_tool.proofs.Common.{Ok, rules, transition_of}
 use Rattle.cadf_tool.proofs.Rehearsals.{script_refused}
 use Rattle.cadf_tool.proofs.Runs.{unwritten}
 use Rattle.cadf_tool.proofs.rehearse.run_rehearse.Goals as goal

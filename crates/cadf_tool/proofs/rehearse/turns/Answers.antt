@@ -1,4 +1,4 @@
-use Rattle.cadf_tool.specs.Run.{transition_of}
+use Rattle.cadf_tool.proofs.Common.{transition_of}
 use Rattle.cadf_tool.proofs.Rehearsals.{turns_read, line_refused}
 use Rattle.cadf_tool.proofs.rehearse.turns.Goals as goal
 

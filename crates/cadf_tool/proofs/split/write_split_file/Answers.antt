@@ -1,4 +1,4 @@
-use Rattle.std.proofs.Common.{rules}
+use Rattle.cadf_tool.proofs.Common.{rules}
 use Rattle.cadf_tool.proofs.split.write_split_file.Goals as goal
 
 pub returns : goal.returns

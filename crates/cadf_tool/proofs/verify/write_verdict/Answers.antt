@@ -1,7 +1,4 @@
-use Rattle.std.proofs.Common.{arith, rules}
-use Rattle.cadf_tool.specs.Inputs.{source_state}
-use Rattle.cadf_tool.specs.Run.{input_spec}
-use Rattle.cadf_tool.specs.ModelInput.{seal_spec, proof_spec}
+use Rattle.cadf_tool.proofs.Common.{arith, rules, source_state, input_spec, seal_spec, proof_spec}
 use Rattle.cadf_tool.proofs.Runs.{one_read, both_read, first_stopped, second_stopped, last_run, stopped}
 use Rattle.cadf_tool.proofs.SourceParts.{seal_facts_proof_run}
 use Rattle.cadf_tool.proofs.verify.write_verdict.Goals as goal

@@ -1,6 +1,4 @@
-use Rattle.std.proofs.Common.{◌∙◌}
-use Rattle.clap.specs.Matches.{found_of}
-use Rattle.clap.proofs.WalkLemmas.{one_text-rows}
+use Rattle.cadf_words.proofs.Common.{◌∙◌, found_of, one_text-rows}
 use Rattle.cadf_words.proofs.request.flag.Goals as goal
 
 pub returns : goal.returns

@@ -1,5 +1,4 @@
-use Rattle.std.proofs.Common.{map}
-use Rattle.clap.specs.Words.{app_of}
+use Rattle.cadf_words.proofs.Common.{map, app_of}
 use Rattle.cadf_words.proofs.Found.{answered}
 use Rattle.cadf_words.proofs.request.matches_of.Goals as goal
 

@@ -1,6 +1,4 @@
-use Rattle.std.proofs.Common.{◌∙◌}
-use Rattle.clap.specs.Matches.{found_of}
-use Rattle.clap.proofs.WalkLemmas.{first_value-rows}
+use Rattle.cadf_words.proofs.Common.{◌∙◌, found_of, first_value-rows}
 use Rattle.cadf_words.proofs.request.option.Goals as goal
 
 pub returns : goal.returns

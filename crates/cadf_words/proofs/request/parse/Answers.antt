@@ -1,6 +1,4 @@
-use Rattle.std.proofs.Common.{map}
-use Rattle.clap.specs.Matches.{found_of}
-use Rattle.clap.specs.Walk.{rows_of}
+use Rattle.cadf_words.proofs.Common.{map, found_of, rows_of}
 use Rattle.cadf_words.proofs.Found.{known, made, no_command, told_err}
 use Rattle.cadf_words.proofs.request.parse.Goals as goal
 

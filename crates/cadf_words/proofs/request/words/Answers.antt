@@ -1,6 +1,4 @@
-use Rattle.std.proofs.Common.{◌∙◌}
-use Rattle.clap.specs.Matches.{found_of}
-use Rattle.clap.proofs.WalkLemmas.{raw_values-rows}
+use Rattle.cadf_words.proofs.Common.{◌∙◌, found_of, raw_values-rows}
 use Rattle.cadf_words.proofs.Getters.{texts_or_none}
 use Rattle.cadf_words.proofs.request.words.Goals as goal
 

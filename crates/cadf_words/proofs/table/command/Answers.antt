@@ -1,6 +1,4 @@
-use Rattle.std.proofs.Common.{◌∙◌, ap, ap₂, sym, refl}
-use Rattle.std.proofs.lemmas.List.Sums.{fold_more}
-use Rattle.clap.specs.Simple.{app_of_fields, with_subcommand}
+use Rattle.cadf_words.proofs.Common.{◌∙◌, ap, ap₂, sym, refl, fold_more, app_of_fields, with_subcommand}
 use Rattle.cadf_words.proofs.Rows.{all_added, before_commands, required, versioned, with_command}
 use Rattle.cadf_words.proofs.table.command.Goals as goal
 

@@ -1,6 +1,4 @@
-use Rattle.std.proofs.Common.{◌≡◌, take}
-use Rattle.std.specs.List.{fold}
-use Rattle.clap.specs.Words.{app_of}
+use Rattle.cadf_words.proofs.Common.{◌≡◌, take, fold, app_of}
 use Rattle.cadf_words.proofs.Rows.{before_commands, with_command}
 use Rattle.cadf_words.proofs.table.command.Given as goal
 

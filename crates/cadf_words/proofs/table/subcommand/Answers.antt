@@ -1,8 +1,4 @@
-use Rattle.std.proofs.Common.{◌∙◌, ◌||◌, ap, ap₂, sym, []}
-use Rattle.std.specs.List.{fold}
-use Rattle.std.proofs.lemmas.List.{take_all}
-use Rattle.std.proofs.lemmas.List.Sums.{fold_more}
-use Rattle.clap.specs.Simple.{app_of_fields, new_app, new_shape, with_rule}
+use Rattle.cadf_words.proofs.Common.{◌∙◌, ◌||◌, ap, ap₂, sym, [], fold, take_all, fold_more, app_of_fields, new_app, new_shape, with_rule}
 use Rattle.cadf_words.proofs.Rows.{with_word, words_added}
 use Rattle.cadf_words.proofs.table.subcommand.Goals as goal
 

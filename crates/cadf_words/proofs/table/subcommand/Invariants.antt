@@ -1,7 +1,4 @@
-use Rattle.std.proofs.Common.{◌≡◌, false, take}
-use Rattle.std.specs.List.{fold}
-use Rattle.clap.specs.Words.{app_of, new_app}
-use Rattle.clap.specs.declared.builder.command.Command.TheViews.{out-Command}
+use Rattle.cadf_words.proofs.Common.{◌≡◌, false, take, fold, app_of, new_app, out-Command}
 use Rattle.cadf_words.proofs.Rows.{with_word}
 use Rattle.cadf_words.proofs.table.subcommand.Given as goal
 

@@ -1,5 +1,4 @@
-use Rattle.std.proofs.Common.{nat_cmp, ap₂, ◌∙◌}
-use Rattle.std.specs.Cmp.Lexicographic.{slice_cmp}
+use Rattle.cadf_json.proofs.Common.{nat_cmp, ap₂, ◌∙◌, slice_cmp}
 use Rattle.cadf_json.proofs.Fronts.{by_fronts}
 use Rattle.cadf_json.proofs.front.Fronted.cmp.Goals as goal
 

@@ -1,6 +1,4 @@
-use Rattle.std.proofs.lemmas.Grind.{common_steps}
-use Rattle.std.proofs.Common.{arith, take_all, length-drop}
-use Rattle.serde_json.specs.Read.{number_of}
+use Rattle.cadf_json.proofs.Common.{common_steps, arith, take_all, length-drop, number_of}
 use Rattle.cadf_json.proofs.number.Number.parse.Goals as goal
 
 pub returns-in-45 : goal.returns-in-45

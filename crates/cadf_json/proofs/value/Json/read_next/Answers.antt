@@ -1,5 +1,4 @@
-use Rattle.std.proofs.Common.{Some, sym, ap, subst, ◌∙◌}
-use Rattle.cadf_json.specs.Value.{IsValue}
+use Rattle.cadf_json.proofs.Common.{Some, sym, ap, subst, ◌∙◌, IsValue}
 use Rattle.cadf_json.proofs.Decoding.{flat_value}
 use Rattle.cadf_json.proofs.Settling.{from_none}
 use Rattle.cadf_json.proofs.ReadValues.{value_read}

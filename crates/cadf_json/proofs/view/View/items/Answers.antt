@@ -1,5 +1,4 @@
-use Rattle.std.proofs.lemmas.Grind.{common_steps}
-use Rattle.std.proofs.Common.{is_some, arith}
+use Rattle.cadf_json.proofs.Common.{common_steps, is_some, arith}
 use Rattle.cadf_json.proofs.Walking.{list_parts}
 use Rattle.cadf_json.proofs.view.View.items.Goals as goal
 

@@ -1,7 +1,4 @@
-use Rattle.std.proofs.lemmas.Grind.{common_steps}
-use Rattle.std.proofs.Common.{◌≡◌, length, slice_index_or, arith, ap, ◌∙◌}
-use Rattle.cadf_json.specs.declared.node.Node.TheVariants.{Null, Array, Object}
-use Rattle.cadf_json.specs.Parts.{parts_in}
+use Rattle.cadf_json.proofs.Common.{common_steps, ◌≡◌, length, slice_index_or, arith, ap, ◌∙◌, Null, Array, Object, parts_in}
 use Rattle.cadf_json.proofs.Counts.{list_count, object_count}
 use Rattle.cadf_json.proofs.view.View.len.Goals as goal
 

@@ -1,5 +1,4 @@
-use Rattle.std.proofs.Common.{◌≡◌}
-use Rattle.serde_json.specs.Find.{get, get_member}
+use Rattle.cadf_json.proofs.Common.{◌≡◌, get, get_member}
 use Rattle.cadf_json.proofs.view.View.member.Given as goal
 
 abbrev pub invariant-loop-member : goal.invariant-loop-member

@@ -1,5 +1,4 @@
-use Rattle.std.proofs.lemmas.Grind.{common_steps}
-use Rattle.std.proofs.Common.{arith}
+use Rattle.cadf_json.proofs.Common.{common_steps, arith}
 use Rattle.cadf_json.proofs.Walking.{object_parts}
 use Rattle.cadf_json.proofs.view.View.members.Goals as goal
 

@@ -1,7 +1,4 @@
-use Rattle.std.proofs.Common.{◌≡◌, nat_le}
-use Rattle.serde_json.specs.Data.{depth}
-use Rattle.cadf_json.specs.Parts.{members_in}
-use Rattle.cadf_json.specs.Rewritten.{all_members, limit_for, limits_of}
+use Rattle.cadf_json.proofs.Common.{◌≡◌, nat_le, depth, members_in, all_members, limit_for, limits_of}
 use Rattle.cadf_json.proofs.view.View.members_nest_within.Given as goal
 
 abbrev pub invariant-loop-member : goal.invariant-loop-member

@@ -1,5 +1,4 @@
-use Rattle.std.proofs.Common.{◌≡◌, slice_get}
-use Rattle.cadf_json.specs.Parts.{names_of, names_in}
+use Rattle.cadf_json.proofs.Common.{◌≡◌, slice_get, names_of, names_in}
 use Rattle.cadf_json.proofs.view.View.name_at.Given as goal
 
 abbrev pub invariant-loop-member : goal.invariant-loop-member

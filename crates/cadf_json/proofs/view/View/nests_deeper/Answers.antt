@@ -1,5 +1,4 @@
-use Rattle.std.proofs.lemmas.Grind.{common_steps}
-use Rattle.std.proofs.Common.{◌≡◌, ℕ, ◌≤◌, not, nat_le, nat_lt, arith}
+use Rattle.cadf_json.proofs.Common.{common_steps, ◌≡◌, ℕ, ◌≤◌, not, nat_le, nat_lt, arith}
 use Rattle.cadf_json.proofs.Depths.{nests_within}
 use Rattle.cadf_json.proofs.view.View.nests_deeper.Goals as goal
 

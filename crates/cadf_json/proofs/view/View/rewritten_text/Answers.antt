@@ -1,8 +1,4 @@
-use Rattle.std.proofs.Common.{◌≡◌, ◌++◌, [], ◌∷◌, false, IsUtf8, sym, ap, ◌∙◌, subst, arith, rules}
-use Rattle.serde_json.specs.Data.{string, object}
-use Rattle.serde_json.specs.Written.{members_text}
-use Rattle.cadf_json.specs.Rewritten.{without, replaced, texts_of}
-use Rattle.cadf_json.specs.Value.{AreMembers}
+use Rattle.cadf_json.proofs.Common.{◌≡◌, ◌++◌, [], ◌∷◌, false, IsUtf8, sym, ap, ◌∙◌, subst, arith, rules, string, object, members_text, without, replaced, texts_of, AreMembers}
 use Rattle.cadf_json.proofs.Rewriting.{AreMembers-without, AreMembers-replaced}
 use Rattle.cadf_json.proofs.TextBytes.{text_utf8}
 use Rattle.cadf_json.proofs.Walking.{are_members_in}

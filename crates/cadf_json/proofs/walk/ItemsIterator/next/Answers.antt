@@ -1,9 +1,4 @@
-use Rattle.std.proofs.lemmas.Grind.{common_steps}
-use Rattle.std.proofs.Common.{◌≡◌, slice_index_or, sym, subst, arith, ap, ◌∙◌}
-use Rattle.cadf_json.specs.declared.node.Node.TheVariants.{Null}
-use Rattle.cadf_json.specs.Flat.{decode, Stands, size_of}
-use Rattle.cadf_json.specs.Value.{IsValue}
-use Rattle.cadf_json.specs.Walks.{AreItemsLeft}
+use Rattle.cadf_json.proofs.Common.{common_steps, ◌≡◌, slice_index_or, sym, subst, arith, ap, ◌∙◌, Null, decode, Stands, size_of, IsValue, AreItemsLeft}
 use Rattle.cadf_json.proofs.Walking.{next_item}
 use Rattle.cadf_json.proofs.walk.ItemsIterator.next.Goals as goal
 

@@ -1,4 +1,4 @@
-use Rattle.std.proofs.Common.{arith}
+use Rattle.cadf_memory.proofs.Common.{arith}
 use Rattle.cadf_memory.proofs.Stored.{stores}
 use Rattle.cadf_memory.proofs.buffer.BufferSink.write.Goals as goal
 

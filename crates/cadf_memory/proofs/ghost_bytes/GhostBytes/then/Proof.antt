@@ -1,35 +1,11 @@
 -- The bytes are noted. Assumes `Logic`.
-use Rattle.std.proofs.Common.{List, [], ◌∷◌, ◌++◌, refl}
-use seplogic.Ra.Ura.{Ura}
-use mir.Syntax.{Fn}
-use mir.Val.{Val, vptr}
-use base.Logic.{SProp, ent}
-use prog.Memory.{Memory}
-use prog.Routine.{Routine}
-use prog.Wp.{Calls, Loops, WpFn, Tables}
-use contract.Monad.{Fun}
-use contract.Running.{tables, tables_of}
-use sound.WpLaws.{WpFn-mono}
-use types.Logic.{Logic}
-use types.Kit.{‵, raw, ◌⊛◌, prop, ◌$◌, ◌∵◌, !, qed, move, keep, drop, split, fsplit, fjoin, feq_l, regoal, suffices, done}
-use types.Part.{agg}
-use types.Run.{enter, returns, no_more}
-use types.ByLocal.{alloc_all, pass_all, free_all, look_at, sets}
-use denote.Exit.{yes}
-use denote.RattleType.{owns}
-use denote.Builtin.{RefOf}
-use denote.Signature.{plain, types_at, named_lft}
-use denote.Steps.{nothing}
-use denote.Triple.Clauses.{Clauses, Ended, closing}
-use denote.Triple.Entry.{alive}
-use denote.Triple.Spec.{Meets, triple_of}
-use denote.Triple.Table.{entered}
-use denote.Triple.Walked.{says, Stays, stay_dropped, walk_of, ends_at, walk_Meets, Goes-dropped}
+use Rattle.cadf_memory.proofs.Common.{List, [], ◌∷◌, ◌++◌, refl, Ura, Fn, Val, vptr, SProp, ent, Memory, Routine, Calls, Loops, WpFn, Tables, Fun, tables, tables_of, WpFn-mono, Logic, ‵, raw, ◌⊛◌, prop, ◌$◌, ◌∵◌, !, qed, move, keep, split, fsplit, fjoin, feq_l, regoal, suffices, done, agg, enter, returns, no_more, alloc_all, pass_all, free_all, look_at, sets, yes, owns, RefOf, plain, types_at, named_lft, nothing, Clauses, Ended, closing, alive, Meets, triple_of, entered, says, Stays, stay_dropped, walk_of, ends_at, walk_Meets, Goes-dropped}
+use types.Kit.{drop}
+use Rattle.cadf_memory.specs.contracts.ghost_bytes.GhostBytes.then.Key.{name as #self}
 use Rattle.cadf_memory.proofs.Walks.{none, none_made}
 use Rattle.cadf_memory.specs.contracts.ghost_bytes.GhostBytes as GhostBytes
 use Rattle.cadf_memory.specs.contracts.ghost_bytes.Given as Given
 use Rattle.cadf_memory.specs.contracts.ghost_bytes.GhostBytes.then as F
-use Rattle.cadf_memory.specs.contracts.ghost_bytes.GhostBytes.then.Key.{name as #self}
 use Rattle.cadf_memory.proofs.ghost_bytes.GhostBytes.then.Statement as stated
 use Rattle.cadf_memory.proofs.ghost_bytes.GhostBytes.then.Code as code
 

@@ -1,10 +1,5 @@
-use Rattle.std.proofs.Common.{◌≡◌, [], ap, ◌∙◌}
-use Rattle.std.specs.List.{filter_map}
+use Rattle.cadf_pathset.proofs.Common.{◌≡◌, [], ap, ◌∙◌, filter_map, longest, longest_of, texts_found, if_ok_then, strip}
 use Rattle.cadf_join.specs.Sets as set
-use Rattle.cadf_join.specs.Longest.{longest, longest_of}
-use Rattle.cadf_join.specs.Prefixes.{texts_found}
-use Rattle.cadf_join.proofs.Outcome.{if_ok_then}
-use Rattle.cadf_pathset.specs.Lists.{strip}
 use Rattle.cadf_pathset.proofs.Chained.{all_stripped}
 use Rattle.cadf_pathset.proofs.chain_tree.ChainTree.longest.Goals as goal
 

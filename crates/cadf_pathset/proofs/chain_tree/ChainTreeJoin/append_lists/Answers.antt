@@ -1,8 +1,4 @@
-use Rattle.std.proofs.lemmas.Grind.{common_steps}
-use Rattle.std.proofs.Common.{◌≡◌, ap, sym, ◌∙◌, arith}
-use Rattle.cadf_join.specs.laws.Chains.{chains_of_chains}
-use Rattle.cadf_join.specs.Contents.{Contents}
-use Rattle.cadf_join.specs.Prefixes.{all_texts, chains}
+use Rattle.cadf_pathset.proofs.Common.{common_steps, ◌≡◌, ap, sym, ◌∙◌, arith, chains_of_chains, Contents, all_texts, chains}
 use Rattle.cadf_pathset.proofs.chain_tree.ChainTreeJoin.append_lists.Goals as goal
 
 pub returns : goal.returns

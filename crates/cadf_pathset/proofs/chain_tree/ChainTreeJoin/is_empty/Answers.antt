@@ -1,7 +1,6 @@
-use Rattle.std.proofs.Common.{◌≡◌, false, ap, sym, ◌∙◌, []}
+use Rattle.cadf_pathset.proofs.Common.{◌≡◌, false, ap, sym, ◌∙◌, [], chains}
 use Rattle.cadf_join.specs.Sets as set
 use Rattle.cadf_join.specs.laws.Chains as chain_laws
-use Rattle.cadf_join.specs.Prefixes.{chains}
 use Rattle.cadf_pathset.proofs.chain_tree.ChainTreeJoin.is_empty.Goals as goal
 
 pub returns : goal.returns

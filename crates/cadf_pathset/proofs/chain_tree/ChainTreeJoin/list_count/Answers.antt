@@ -1,8 +1,5 @@
-use Rattle.std.proofs.Common.{ap, sym, ◌∙◌}
-use Rattle.std.specs.Prelude.{length}
+use Rattle.cadf_pathset.proofs.Common.{ap, sym, ◌∙◌, length, chains_of_chains, saturated}
 use Rattle.cadf_join.specs.Sets as set
-use Rattle.cadf_join.specs.laws.Chains.{chains_of_chains}
-use Rattle.cadf_join.specs.Prefixes.{saturated}
 use Rattle.cadf_pathset.proofs.chain_tree.ChainTreeJoin.list_count.Goals as goal
 
 pub returns : goal.returns

@@ -1,12 +1,8 @@
-use Rattle.std.proofs.Common.{ap, subst, sym, ◌∙◌}
-use Rattle.std.specs.Prelude.{IfSome, is_some, not}
+use Rattle.cadf_pathset.proofs.Common.{ap, subst, sym, ◌∙◌, IfSome, is_some, not, IsLeastWith, texts_total, chains, HasNoEmptyList}
 use Rattle.cadf_join.specs.Sets as set
-use Rattle.cadf_join.specs.Contents.{IsLeastWith}
 use Rattle.cadf_join.specs.laws.Contents as laws
-use Rattle.cadf_join.specs.laws.Contents.{texts_total}
 use Rattle.cadf_join.specs.laws.Sets as sets
 use Rattle.cadf_join.specs.laws.Chains as chain_laws
-use Rattle.cadf_join.specs.Prefixes.{chains, HasNoEmptyList}
 use Rattle.cadf_pathset.proofs.Chained.{least_is}
 use Rattle.cadf_pathset.proofs.chain_tree.ChainTreeJoin.missing_from.Goals as goal
 

@@ -1,7 +1,4 @@
-use Rattle.std.proofs.Common.{[], None, Some, ap, min, subst, sym, ◌∙◌}
-use Rattle.cadf_pathset.specs.Lists.{last_of}
-use Rattle.cadf_pathset.specs.Nodes.{Agree}
-use Rattle.cadf_pathset.specs.Walks.{Advances}
+use Rattle.cadf_pathset.proofs.Common.{[], None, Some, ap, min, subst, sym, ◌∙◌, last_of, Agree, Advances}
 use Rattle.cadf_pathset.proofs.Copies.{advanced_agrees}
 use Rattle.cadf_pathset.proofs.copier.Copier.advance.Goals.{in-Some, in-None}
 use Rattle.cadf_pathset.proofs.copier.Copier.advance.Goals as goal

@@ -1,7 +1,4 @@
-use Rattle.std.proofs.lemmas.Grind.{common_steps}
-use Rattle.std.proofs.Common.{◌≡◌, ◌≤◌, ◌∙◌, ap, length, subst, sym, take, arith}
-use Rattle.std.proofs.lemmas.List.{take-map}
-use Rattle.cadf_join.specs.Prefixes.{texts_at}
+use Rattle.cadf_pathset.proofs.Common.{common_steps, ◌≡◌, ◌≤◌, ◌∙◌, ap, length, subst, sym, take, arith, take-map, texts_at}
 use Rattle.cadf_pathset.proofs.Agreement.{agree_cut}
 use Rattle.cadf_pathset.proofs.Copies.{front_agrees}
 use Rattle.cadf_pathset.proofs.copier.Copier.copy_if_above.Goals as goal

@@ -1,6 +1,4 @@
-use Rattle.std.proofs.lemmas.Grind.{common_steps}
-use Rattle.std.proofs.Common.{arith}
-use Rattle.cadf_pathset.specs.Nodes.{list_at}
+use Rattle.cadf_pathset.proofs.Common.{common_steps, arith, list_at}
 use Rattle.cadf_pathset.proofs.Arena.{list_small, node_count}
 use Rattle.cadf_pathset.proofs.Suffixes.{drop_one_more, drop_past}
 use Rattle.cadf_pathset.proofs.nodes.Nodes.next_depth.Goals as goal

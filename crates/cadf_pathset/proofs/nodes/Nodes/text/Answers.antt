@@ -1,5 +1,4 @@
-use Rattle.std.proofs.lemmas.Grind.{common_steps}
-use Rattle.std.proofs.Common.{arith}
+use Rattle.cadf_pathset.proofs.Common.{common_steps, arith}
 use Rattle.cadf_pathset.proofs.Arena.{text_of_node, text_there}
 use Rattle.cadf_pathset.proofs.nodes.Nodes.text.Goals as goal
 

@@ -1,8 +1,4 @@
-use Rattle.std.proofs.lemmas.Grind.{common_steps}
-use Rattle.std.proofs.Common.{◌<◌, ◌∷◌, length, get_or, sym, ap, ◌∙◌, subst, string_bytes, arith}
-use Rattle.std.proofs.lemmas.List.{get_or_read}
-use Rattle.std.proofs.lemmas.Str.{IsUtf8-string_bytes}
-use Rattle.std.specs.Str.{IsCharBoundary}
+use Rattle.cadf_pathset.proofs.Common.{common_steps, ◌<◌, ◌∷◌, length, get_or, sym, ap, ◌∙◌, subst, string_bytes, arith, get_or_read, IsUtf8-string_bytes, IsCharBoundary}
 use Rattle.cadf_pathset.proofs.Cuts.{texts_count, front_boundary, text_rises, text_boundary, text_there}
 use Rattle.cadf_pathset.proofs.nodes.Pool.text.Goals as goal
 

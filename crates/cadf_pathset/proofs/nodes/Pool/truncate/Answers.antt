@@ -1,7 +1,4 @@
-use Rattle.std.proofs.lemmas.Grind.{common_steps}
-use Rattle.std.proofs.Common.{string_bytes, arith}
-use Rattle.std.proofs.lemmas.List.{take_all}
-use Rattle.std.proofs.lemmas.Str.{IsUtf8-string_bytes}
+use Rattle.cadf_pathset.proofs.Common.{common_steps, string_bytes, arith, take_all, IsUtf8-string_bytes}
 use Rattle.cadf_pathset.proofs.Cuts.{texts_count, front_boundary, front_ends, front_texts}
 use Rattle.cadf_pathset.proofs.nodes.Pool.truncate.Goals as goal
 

@@ -1,7 +1,5 @@
-use Rattle.std.proofs.Common.{◌++◌, ap, ◌∙◌, map, string_bytes}
-use Rattle.cadf_join.specs.Maps.{heads}
+use Rattle.cadf_pathset.proofs.Common.{◌++◌, ap, ◌∙◌, map, string_bytes, heads, sections_from}
 use Rattle.cadf_join.specs.Sets as set
-use Rattle.cadf_pathset.specs.Sections.{sections_from}
 use Rattle.cadf_pathset.proofs.Several.{text_in, texts_of}
 use Rattle.cadf_pathset.proofs.path_set.PathSet.child_texts.Goals as goal
 

@@ -1,8 +1,5 @@
-use Rattle.std.proofs.Common.{◌≡◌, ◌++◌, length, map, string_bytes}
+use Rattle.cadf_pathset.proofs.Common.{◌≡◌, ◌++◌, length, map, string_bytes, heads, texts_at, sections_from, suffixes_after}
 use Rattle.cadf_join.specs.Sets as set
-use Rattle.cadf_join.specs.Maps.{heads}
-use Rattle.cadf_join.specs.Prefixes.{texts_at}
-use Rattle.cadf_pathset.specs.Sections.{sections_from, suffixes_after}
 use Rattle.cadf_pathset.proofs.Several.{text_in}
 use Rattle.cadf_pathset.proofs.path_set.PathSet.child_texts.Given as goal
 

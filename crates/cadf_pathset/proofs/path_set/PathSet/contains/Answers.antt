@@ -1,5 +1,4 @@
-use Rattle.std.proofs.Common.{◌∙◌}
-use Rattle.cadf_join.specs.Prefixes.{texts_at}
+use Rattle.cadf_pathset.proofs.Common.{◌∙◌, texts_at}
 use Rattle.cadf_pathset.proofs.Halving.{found_is_held}
 use Rattle.cadf_pathset.proofs.path_set.PathSet.contains.Goals as goal
 

@@ -1,9 +1,5 @@
-use Rattle.std.proofs.Common.{ap, sym, ◌∙◌}
+use Rattle.cadf_pathset.proofs.Common.{ap, sym, ◌∙◌, rising-from_list, texts_total, texts_same, chain_texts, last_starts_with}
 use Rattle.cadf_join.specs.Sets as set
-use Rattle.cadf_join.specs.laws.Rising.{rising-from_list}
-use Rattle.cadf_join.specs.laws.Contents.{texts_total, texts_same}
-use Rattle.cadf_join.specs.Prefixes.{chain_texts}
-use Rattle.cadf_pathset.specs.Lists.{last_starts_with}
 use Rattle.cadf_pathset.proofs.path_set.PathSet.last_starts_with.Goals as goal
 
 pub returns : goal.returns

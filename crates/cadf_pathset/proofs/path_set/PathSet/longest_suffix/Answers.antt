@@ -1,6 +1,4 @@
-use Rattle.std.proofs.Common.{ap, ◌∙◌, Some}
-use Rattle.cadf_join.specs.Longest.{longest_of}
-use Rattle.cadf_join.specs.Prefixes.{texts_at}
+use Rattle.cadf_pathset.proofs.Common.{ap, ◌∙◌, Some, longest_of, texts_at}
 use Rattle.cadf_join.specs.Sets as set
 use Rattle.cadf_pathset.proofs.Behind.{rising_strip}
 use Rattle.cadf_pathset.proofs.path_set.PathSet.longest_suffix.Goals as goal

@@ -1,9 +1,5 @@
-use Rattle.std.proofs.Common.{ap, sym, subst, ◌∙◌}
-use Rattle.std.specs.List.Sorted.{IsStrictlySortedBy}
+use Rattle.cadf_pathset.proofs.Common.{ap, sym, subst, ◌∙◌, IsStrictlySortedBy, texts_cmp, texts_total, texts_same, with_carriers_by}
 use Rattle.cadf_join.specs.Sets as set
-use Rattle.cadf_join.specs.Contents.{texts_cmp}
-use Rattle.cadf_join.specs.laws.Contents.{texts_total, texts_same}
-use Rattle.cadf_pathset.specs.Carriers.{with_carriers_by}
 use Rattle.cadf_pathset.proofs.Merges.{without_rises, without_is_difference}
 use Rattle.cadf_pathset.proofs.path_set.PathSet.missing_with_carriers.Goals as goal
 

@@ -1,7 +1,4 @@
-use Rattle.std.proofs.lemmas.Grind.{common_steps}
-use Rattle.std.proofs.Common.{ap, ◌∙◌, arith, length}
-use Rattle.std.specs.List.{filter}
-use Rattle.cadf_join.specs.MultiValued.{multi_valued_keys}
+use Rattle.cadf_pathset.proofs.Common.{common_steps, ap, ◌∙◌, arith, length, filter, multi_valued_keys}
 use Rattle.cadf_pathset.proofs.Several.{has_two, several_of}
 use Rattle.cadf_pathset.proofs.path_set.PathSet.multi_valued_count_at.Goals as goal
 

@@ -1,8 +1,4 @@
-use Rattle.std.proofs.Common.{◌≡◌, ◌+◌, ◌≤◌, length}
-use Rattle.std.specs.List.{filter}
-use Rattle.cadf_join.specs.Prefixes.{saturated, texts_at}
-use Rattle.cadf_join.specs.MultiValued.{multi_valued_keys}
-use Rattle.cadf_pathset.specs.Sections.{sections_from, suffixes_after}
+use Rattle.cadf_pathset.proofs.Common.{◌≡◌, ◌+◌, ◌≤◌, length, filter, saturated, texts_at, multi_valued_keys, sections_from, suffixes_after}
 use Rattle.cadf_pathset.proofs.Several.{has_two}
 use Rattle.cadf_pathset.proofs.path_set.PathSet.multi_valued_count_at.Given as goal
 

@@ -1,7 +1,4 @@
-use Rattle.std.proofs.lemmas.Grind.{common_steps}
-use Rattle.std.proofs.Common.{◌∙◌, ap, arith}
-use Rattle.cadf_join.specs.Prefixes.{texts_at}
-use Rattle.cadf_pathset.specs.Sections.{suffixes_after}
+use Rattle.cadf_pathset.proofs.Common.{common_steps, ◌∙◌, ap, arith, texts_at, suffixes_after}
 use Rattle.cadf_pathset.proofs.Behind.{after_first}
 use Rattle.cadf_pathset.proofs.path_set.PathSet.suffix_set.Goals as goal
 

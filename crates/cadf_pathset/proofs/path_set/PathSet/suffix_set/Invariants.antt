@@ -1,6 +1,4 @@
-use Rattle.std.proofs.Common.{◌≡◌, drop}
-use Rattle.cadf_join.specs.Prefixes.{texts_at}
-use Rattle.cadf_pathset.specs.Sections.{suffixes_after}
+use Rattle.cadf_pathset.proofs.Common.{◌≡◌, drop, texts_at, suffixes_after}
 use Rattle.cadf_pathset.proofs.path_set.PathSet.suffix_set.Given as goal
 
 abbrev pub invariant-loop-text : goal.invariant-loop-text

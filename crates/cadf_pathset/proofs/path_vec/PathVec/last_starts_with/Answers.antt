@@ -1,6 +1,4 @@
-use Rattle.std.proofs.lemmas.Grind.{common_steps}
-use Rattle.std.proofs.Common.{arith}
-use Rattle.std.proofs.lemmas.List.{length-map}
+use Rattle.cadf_pathset.proofs.Common.{common_steps, arith, length-map}
 use Rattle.cadf_pathset.proofs.Suffixes.{last_begins}
 use Rattle.cadf_pathset.proofs.path_vec.PathVec.last_starts_with.Goals as goal
 

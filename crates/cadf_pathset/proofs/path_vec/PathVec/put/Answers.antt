@@ -1,6 +1,4 @@
-use Rattle.std.proofs.lemmas.Grind.{common_steps}
-use Rattle.std.proofs.Common.{◌∙◌, ap, arith, sym, subst}
-use Rattle.cadf_pathset.specs.Nodes.{AreThere, IsThere, last_node, place}
+use Rattle.cadf_pathset.proofs.Common.{common_steps, ◌∙◌, ap, arith, sym, subst, AreThere, IsThere, last_node, place}
 use Rattle.cadf_pathset.proofs.Inserts.{all_put, map_put}
 use Rattle.cadf_pathset.proofs.Merging.{front_out}
 use Rattle.cadf_pathset.proofs.Threads.{last_there, lists_kept, place_of, there_kept}

@@ -1,8 +1,4 @@
-use Rattle.std.proofs.Common.{◌≡◌, ◌+◌, ◌-◌, ◌/◌, ◌∙◌, ℕ, [], get_or, arith, subst, sym, map}
-use Rattle.std.specs.declared.cmp.Ordering.TheVariants.{Less}
-use Rattle.cadf_join.specs.Contents.{texts_cmp}
-use Rattle.cadf_join.specs.laws.Contents.{texts_same}
-use Rattle.cadf_pathset.specs.Nodes.{Agree}
+use Rattle.cadf_pathset.proofs.Common.{◌≡◌, ◌+◌, ◌-◌, ◌/◌, ◌∙◌, ℕ, [], get_or, arith, subst, sym, map, Less, texts_cmp, texts_same, Agree}
 use Rattle.cadf_pathset.proofs.Bounds.{known_between}
 use Rattle.cadf_pathset.proofs.Halving.{above_here, all_dropped, all_taken, below_here}
 use Rattle.cadf_pathset.proofs.Merging.{agree_as}

@@ -1,7 +1,4 @@
-use Rattle.std.proofs.Common.{◌≡◌, ◌≤◌, ◌<◌, ◌-◌, ℕ, [], length, get_or, map}
-use Rattle.std.specs.declared.cmp.Ordering.TheVariants.{Less}
-use Rattle.cadf_join.specs.Contents.{texts_cmp}
-use Rattle.cadf_pathset.specs.Nodes.{Agree}
+use Rattle.cadf_pathset.proofs.Common.{◌≡◌, ◌≤◌, ◌<◌, ◌-◌, ℕ, [], length, get_or, map, Less, texts_cmp, Agree}
 use Rattle.cadf_pathset.proofs.path_vec.PathVec.seek.Given as goal
 
 abbrev pub invariant-loop-low : goal.invariant-loop-low

@@ -1,10 +1,5 @@
-use Rattle.std.proofs.Common.{ap, arith, subst, sym}
-use Rattle.std.specs.List.Sorted.{IsStrictlySortedBy}
-use Rattle.cadf_join.specs.Contents.{texts_cmp}
+use Rattle.cadf_pathset.proofs.Common.{ap, arith, subst, sym, IsStrictlySortedBy, texts_cmp, texts_total, texts_same, rising_is_sorted, AreThere, IsThere}
 use Rattle.cadf_join.specs.Sets as set
-use Rattle.cadf_join.specs.laws.Contents.{texts_total, texts_same}
-use Rattle.cadf_join.specs.laws.Rising.{rising_is_sorted}
-use Rattle.cadf_pathset.specs.Nodes.{AreThere, IsThere}
 use Rattle.cadf_pathset.proofs.Halving.{drop_sorted}
 use Rattle.cadf_pathset.proofs.Narrowed.{all_of_last, shown_count, shown_from}
 use Rattle.cadf_pathset.proofs.suffix_set.SuffixSet.above.Goals as goal

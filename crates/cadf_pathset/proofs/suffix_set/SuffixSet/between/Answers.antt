@@ -1,6 +1,4 @@
-use Rattle.std.proofs.Common.{ap, arith, subst, sym}
-use Rattle.std.specs.List.Sorted.{IsStrictlySortedBy}
-use Rattle.cadf_join.specs.Contents.{texts_cmp}
+use Rattle.cadf_pathset.proofs.Common.{ap, arith, subst, sym, IsStrictlySortedBy, texts_cmp}
 use Rattle.cadf_join.specs.Sets as set
 use Rattle.cadf_pathset.proofs.Narrowed.{between_view, left_there, shown, shown_count}
 use Rattle.cadf_pathset.proofs.suffix_set.SuffixSet.between.Goals as goal

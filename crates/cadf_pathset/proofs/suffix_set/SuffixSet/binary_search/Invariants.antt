@@ -1,6 +1,5 @@
-use Rattle.std.proofs.Common.{◌∷◌, ◌≡◌, ◌≤◌, ◌<◌, ◌-◌, ℕ, true, false, [], length, get_or}
+use Rattle.cadf_pathset.proofs.Common.{◌∷◌, ◌≡◌, ◌≤◌, ◌<◌, ◌-◌, ℕ, true, false, [], length, get_or, is_before}
 use Rattle.cadf_join.specs.Sets as set
-use Rattle.cadf_pathset.specs.Lists.{is_before}
 use Rattle.cadf_pathset.proofs.suffix_set.SuffixSet.binary_search.Given as goal
 
 abbrev pub invariant-loop-low : goal.invariant-loop-low

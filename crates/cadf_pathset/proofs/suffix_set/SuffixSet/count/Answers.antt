@@ -1,5 +1,4 @@
-use Rattle.std.proofs.lemmas.Grind.{common_steps}
-use Rattle.std.proofs.Common.{arith}
+use Rattle.cadf_pathset.proofs.Common.{common_steps, arith}
 use Rattle.cadf_pathset.proofs.Narrowed.{shown}
 use Rattle.cadf_pathset.proofs.suffix_set.SuffixSet.count.Goals as goal
 

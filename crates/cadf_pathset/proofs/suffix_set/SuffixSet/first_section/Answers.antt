@@ -1,7 +1,4 @@
-use Rattle.std.proofs.lemmas.Grind.{common_steps}
-use Rattle.std.proofs.Common.{◌∷◌, ◌∙◌, ap, arith, sym}
-use Rattle.std.specs.Option.{option_copied}
-use Rattle.cadf_pathset.specs.Sections.{sections_of}
+use Rattle.cadf_pathset.proofs.Common.{common_steps, ◌∷◌, ◌∙◌, ap, arith, sym, option_copied, sections_of}
 use Rattle.cadf_pathset.proofs.FirstSections.{none_passed, part_rises, sections_are, sections-none}
 use Rattle.cadf_pathset.proofs.suffix_set.SuffixSet.first_section.Goals as goal
 

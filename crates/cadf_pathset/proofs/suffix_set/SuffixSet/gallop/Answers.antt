@@ -1,7 +1,5 @@
-use Rattle.std.proofs.Common.{◌∷◌, [], true, arith, sym, ◌∙◌}
+use Rattle.cadf_pathset.proofs.Common.{◌∷◌, [], true, arith, sym, ◌∙◌, texts_total, texts_same, rising_is_sorted}
 use Rattle.cadf_join.specs.Sets as set
-use Rattle.cadf_join.specs.laws.Contents.{texts_total, texts_same}
-use Rattle.cadf_join.specs.laws.Rising.{rising_is_sorted}
 use Rattle.cadf_pathset.proofs.Halving.{all_before, none_before}
 use Rattle.cadf_pathset.proofs.suffix_set.SuffixSet.gallop.Goals as goal
 

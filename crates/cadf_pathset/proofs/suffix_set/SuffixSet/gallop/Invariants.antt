@@ -1,6 +1,5 @@
-use Rattle.std.proofs.Common.{◌∷◌, ◌≡◌, ◌≤◌, ◌<◌, ◌-◌, ℕ, true, [], length, get_or}
+use Rattle.cadf_pathset.proofs.Common.{◌∷◌, ◌≡◌, ◌≤◌, ◌<◌, ◌-◌, ℕ, true, [], length, get_or, is_before}
 use Rattle.cadf_join.specs.Sets as set
-use Rattle.cadf_pathset.specs.Lists.{is_before}
 use Rattle.cadf_pathset.proofs.suffix_set.SuffixSet.gallop.Given as goal
 
 abbrev pub invariant-loop-step : goal.invariant-loop-step

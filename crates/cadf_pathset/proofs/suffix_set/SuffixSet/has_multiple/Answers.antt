@@ -1,5 +1,4 @@
-use Rattle.std.proofs.Common.{ap, sym, ◌∙◌}
-use Rattle.cadf_pathset.specs.Sections.{sections_from}
+use Rattle.cadf_pathset.proofs.Common.{ap, sym, ◌∙◌, sections_from}
 use Rattle.cadf_pathset.proofs.FirstSections.{several, not_several}
 use Rattle.cadf_pathset.proofs.suffix_set.SuffixSet.has_multiple.Goals as goal
 

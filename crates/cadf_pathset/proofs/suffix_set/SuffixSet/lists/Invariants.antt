@@ -1,7 +1,5 @@
-use Rattle.std.proofs.Common.{◌≡◌, ◌++◌, drop, map}
+use Rattle.cadf_pathset.proofs.Common.{◌≡◌, ◌++◌, drop, map, all_texts, rest_of}
 use Rattle.cadf_join.specs.Sets as set
-use Rattle.cadf_join.specs.Prefixes.{all_texts}
-use Rattle.cadf_pathset.specs.Nodes.{rest_of}
 use Rattle.cadf_pathset.proofs.suffix_set.SuffixSet.lists.Given as goal
 
 abbrev pub invariant-loop-node : goal.invariant-loop-node

@@ -1,7 +1,5 @@
-use Rattle.std.proofs.Common.{◌≡◌, [], get_or, drop}
-use Rattle.std.specs.Option.{option_map}
+use Rattle.cadf_pathset.proofs.Common.{◌≡◌, [], get_or, drop, option_map, longest_of, longest_with}
 use Rattle.cadf_join.specs.Sets as set
-use Rattle.cadf_join.specs.Longest.{longest_of, longest_with}
 use Rattle.cadf_pathset.proofs.suffix_set.SuffixSet.longest.Given as goal
 
 abbrev pub invariant-loop-number : goal.invariant-loop-number

@@ -1,10 +1,4 @@
-use Rattle.std.proofs.lemmas.Grind.{common_steps}
-use Rattle.std.proofs.Common.{◌≡◌, arith}
-use Rattle.std.specs.Option.{option_copied}
-use Rattle.cadf_join.specs.Contents.{next_after}
-use Rattle.cadf_join.specs.Maps.{heads}
-use Rattle.cadf_join.specs.laws.Contents.{texts_total, texts_same}
-use Rattle.cadf_join.specs.laws.Rising.{rising_is_sorted}
+use Rattle.cadf_pathset.proofs.Common.{common_steps, ◌≡◌, arith, option_copied, next_after, heads, texts_total, texts_same, rising_is_sorted}
 use Rattle.cadf_pathset.proofs.Behind.{least_at, next_is, text_at_bound}
 use Rattle.cadf_pathset.proofs.suffix_set.SuffixSet.next_child.Goals.{in-Some, in-None}
 use Rattle.cadf_pathset.proofs.suffix_set.SuffixSet.next_child.Goals as goal

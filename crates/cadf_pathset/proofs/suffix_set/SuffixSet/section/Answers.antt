@@ -1,9 +1,5 @@
-use Rattle.std.proofs.Common.{◌∙◌, ap, subst, sym}
-use Rattle.std.specs.List.Sorted.{IsStrictlySortedBy}
-use Rattle.cadf_join.specs.Contents.{suffixes_of, texts_cmp}
+use Rattle.cadf_pathset.proofs.Common.{◌∙◌, ap, subst, sym, IsStrictlySortedBy, suffixes_of, texts_cmp, texts_total, texts_same, rising_is_sorted}
 use Rattle.cadf_join.specs.Sets as set
-use Rattle.cadf_join.specs.laws.Contents.{texts_total, texts_same}
-use Rattle.cadf_join.specs.laws.Rising.{rising_is_sorted}
 use Rattle.cadf_pathset.proofs.Behind.{rests_rise}
 use Rattle.cadf_pathset.proofs.Narrowed.{section_between}
 use Rattle.cadf_pathset.proofs.suffix_set.SuffixSet.section.Goals as goal

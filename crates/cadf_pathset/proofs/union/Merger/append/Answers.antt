@@ -1,7 +1,4 @@
-use Rattle.std.proofs.lemmas.Grind.{common_steps}
-use Rattle.std.proofs.Common.{◌≤◌, length, ap, sym, subst, ◌∙◌, arith}
-use Rattle.cadf_join.proofs.Outcome.{on_ok_then}
-use Rattle.cadf_pathset.specs.Nodes.{IsLine, last_node, place}
+use Rattle.cadf_pathset.proofs.Common.{common_steps, ◌≤◌, length, ap, sym, subst, ◌∙◌, arith, on_ok_then, IsLine, last_node, place}
 use Rattle.cadf_pathset.proofs.Merging.{front_put}
 use Rattle.cadf_pathset.proofs.Threads.{last_there, put_there, put_lists}
 use Rattle.cadf_pathset.proofs.union.Merger.append.Goals as goal

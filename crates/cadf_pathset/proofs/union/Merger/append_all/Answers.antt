@@ -1,11 +1,4 @@
-use Rattle.std.proofs.lemmas.Grind.{common_steps}
-use Rattle.std.proofs.Common.{◌≡◌, ◌≤◌, ◌-◌, ◌++◌, [], ◌∷◌, ℕ, length, take, drop, get_or, arith, ap, subst, refl, sym, true, ◌∙◌}
-use Rattle.std.proofs.lemmas.List.{take_all}
-use Rattle.std.specs.declared.cmp.Ordering.TheVariants.{Less, Equal, Greater}
-use Rattle.std.specs.List.{AllByRecursion}
-use Rattle.cadf_join.specs.Contents.{texts_cmp}
-use Rattle.cadf_pathset.specs.Merge.{sorted_merge}
-use Rattle.cadf_pathset.specs.Nodes.{AreThere, lists_at}
+use Rattle.cadf_pathset.proofs.Common.{common_steps, ◌≡◌, ◌≤◌, ◌-◌, ◌++◌, [], ◌∷◌, ℕ, length, take, drop, get_or, arith, ap, subst, refl, sym, true, ◌∙◌, take_all, Less, Equal, Greater, AllByRecursion, texts_cmp, sorted_merge, AreThere, lists_at}
 use Rattle.cadf_pathset.proofs.Threads.{kept_again, lists_kept, there_kept}
 use Rattle.cadf_pathset.proofs.Merging.{order_is, ours_put, ours_there, rest_put, turn_skip}
 use Rattle.cadf_pathset.proofs.Merging.{there_at, there_both, there_drop, turn_alone, turn_equal, turn_greater}

@@ -1,8 +1,4 @@
-use Rattle.std.proofs.Common.{◌≡◌, ◌≤◌, ◌++◌, ◌+◌, ◌-◌, ◌*◌, ◌/◌, length, take, drop, true}
-use Rattle.cadf_join.specs.Contents.{texts_cmp}
-use Rattle.cadf_pathset.specs.Merge.{IsMerging, sorted_merge}
-use Rattle.cadf_pathset.specs.Nodes.{AreThere, lists_at}
-use Rattle.cadf_pathset.specs.Walks.{lists_ahead}
+use Rattle.cadf_pathset.proofs.Common.{◌≡◌, ◌≤◌, ◌++◌, ◌+◌, ◌-◌, ◌*◌, ◌/◌, length, take, drop, true, texts_cmp, IsMerging, sorted_merge, AreThere, lists_at, lists_ahead}
 use Rattle.cadf_pathset.proofs.union.Merger.append_all.Given as goal
 
 abbrev pub invariant-loop-more : goal.invariant-loop-more

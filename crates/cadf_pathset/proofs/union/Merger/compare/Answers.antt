@@ -1,8 +1,4 @@
-use Rattle.std.proofs.lemmas.Grind.{common_steps}
-use Rattle.std.proofs.Common.{◌≡◌, ◌++◌, take, arith, sym, ap, subst, ◌∙◌}
-use Rattle.cadf_join.specs.Contents.{Texts}
-use Rattle.cadf_join.specs.Prefixes.{texts_at}
-use Rattle.cadf_pathset.specs.Nodes.{Agree, IsLine, list_at, place}
+use Rattle.cadf_pathset.proofs.Common.{common_steps, ◌≡◌, ◌++◌, take, arith, sym, ap, subst, ◌∙◌, Texts, texts_at, Agree, IsLine, list_at, place}
 use Rattle.cadf_pathset.proofs.Threads.{place_of, self_line}
 use Rattle.cadf_pathset.proofs.Agreement.{agree_less, agree_through, agree_turned}
 use Rattle.cadf_pathset.proofs.Merging.{front_out}

@@ -1,5 +1,4 @@
-use Rattle.std.proofs.Common.{Some, ap, min, subst, take, ◌∙◌}
-use Rattle.cadf_pathset.specs.Walks.{Advances}
+use Rattle.cadf_pathset.proofs.Common.{Some, ap, min, subst, take, ◌∙◌, Advances}
 use Rattle.cadf_pathset.proofs.Merging.{front_entered}
 use Rattle.cadf_pathset.proofs.union.Merger.enter.Goals as goal
 

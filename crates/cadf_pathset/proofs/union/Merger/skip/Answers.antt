@@ -1,10 +1,4 @@
-use Rattle.std.proofs.lemmas.Grind.{common_steps}
-use Rattle.std.proofs.Common.{◌≡◌, ◌+◌, ◌-◌, ◌<◌, ℕ, [], length, get_or, arith, ap, subst, sym, ◌∙◌}
-use Rattle.std.specs.declared.cmp.Ordering.TheVariants.{Less}
-use Rattle.std.proofs.lemmas.List.{get_or-map, length-map}
-use Rattle.cadf_join.specs.Contents.{texts_cmp}
-use Rattle.cadf_join.specs.Prefixes.{texts_at}
-use Rattle.cadf_pathset.specs.Nodes.{list_at, lists_at}
+use Rattle.cadf_pathset.proofs.Common.{common_steps, ◌≡◌, ◌+◌, ◌-◌, ◌<◌, ℕ, [], length, get_or, arith, ap, subst, sym, ◌∙◌, Less, get_or-map, length-map, texts_cmp, texts_at, list_at, lists_at}
 use Rattle.cadf_pathset.proofs.Bounds.{below_range, is_less}
 use Rattle.cadf_pathset.proofs.Halving.{below_here}
 use Rattle.cadf_pathset.proofs.union.Merger.skip.Goals as goal

@@ -1,8 +1,4 @@
-use Rattle.std.proofs.Common.{◌≡◌, ◌≤◌, ◌<◌, ◌-◌, ℕ, [], length, get_or}
-use Rattle.cadf_join.specs.Prefixes.{texts_at}
-use Rattle.std.specs.declared.cmp.Ordering.TheVariants.{Less}
-use Rattle.cadf_join.specs.Contents.{texts_cmp}
-use Rattle.cadf_pathset.specs.Nodes.{lists_at}
+use Rattle.cadf_pathset.proofs.Common.{◌≡◌, ◌≤◌, ◌<◌, ◌-◌, ℕ, [], length, get_or, texts_at, Less, texts_cmp, lists_at}
 use Rattle.cadf_pathset.proofs.union.Merger.skip.Given as goal
 
 abbrev pub invariant-loop-step : goal.invariant-loop-step

@@ -1,16 +1,8 @@
-use Rattle.std.proofs.lemmas.Grind.{common_steps}
-use Rattle.std.proofs.Common.{length, Ok, ap, sym, subst, ◌∙◌, inr, arith}
-use Rattle.std.specs.Prelude.{◌≢◌}
+use Rattle.cadf_rehearsal.proofs.Common.{common_steps, length, Ok, ap, sym, subst, ◌∙◌, inr, arith, ◌≢◌, missing_by, atom_digest, IsLogFault, world_of, log_of_message, message_of}
 use Rattle.cadf_join.specs.Sets as set
-use Rattle.cadf_line.specs.Missing.{missing_by}
-use Rattle.cadf_line.specs.Digest.{atom_digest}
-use Rattle.cadf_set.specs.Refusals.{IsLogFault}
 use Rattle.cadf_rehearsal.specs.Schedule as schedule
-use Rattle.cadf_rehearsal.specs.Federation.{world_of}
-use Rattle.cadf_rehearsal.specs.Federation.{log_of_message}
 use Rattle.cadf_rehearsal.proofs.Turns.{at_site, at_message, site_log, message_log, kept_later}
 use Rattle.cadf_rehearsal.proofs.Seen.{at_or_read, seen_posted}
-use Rattle.cadf_rehearsal.specs.Federation.{message_of}
 use Rattle.cadf_rehearsal.proofs.Turns.{not_answered}
 use Rattle.cadf_rehearsal.proofs.federation.Federation.answer.Goals as goal
 

@@ -1,10 +1,7 @@
-use Rattle.std.proofs.Common.{rules}
-use Rattle.std.proofs.Common.{◌≡◌, Ok, Err, ap, sym, ◌∙◌, cond, eq-eqb, ne_eqb, inr, arith}
+use Rattle.cadf_rehearsal.proofs.Common.{rules, ◌≡◌, Ok, Err, ap, sym, ◌∙◌, cond, eq-eqb, ne_eqb, inr, arith, world_of, message_of, log_of_message}
 use Rattle.cadf_rehearsal.specs.Schedule as schedule
-use Rattle.cadf_rehearsal.specs.Federation.{world_of}
 use Rattle.cadf_rehearsal.specs.declared.fault.RehearseFault.TheVariants as fault
 use Rattle.cadf_rehearsal.proofs.Turns.{at_site, at_message, site_log, message_log, site_takes, site_later}
-use Rattle.cadf_rehearsal.specs.Federation.{message_of, log_of_message}
 use Rattle.cadf_rehearsal.proofs.federation.Federation.deliver.Goals as goal
 
 pub returns-then-asker-site-clause-err : goal.returns-then-asker-site-clause-err

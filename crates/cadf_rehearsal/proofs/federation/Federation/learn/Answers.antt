@@ -1,11 +1,7 @@
-use Rattle.std.proofs.lemmas.Grind.{common_steps}
-use Rattle.std.proofs.Common.{Ok, Err, ap, subst, ◌∙◌, cond, arith}
+use Rattle.cadf_rehearsal.proofs.Common.{common_steps, Ok, Err, ap, subst, ◌∙◌, cond, arith, world_of, IsOfLog, document_atoms}
 use Rattle.cadf_rehearsal.specs.Schedule as schedule
-use Rattle.cadf_rehearsal.specs.Federation.{world_of}
 use Rattle.cadf_rehearsal.specs.declared.fault.RehearseFault.TheVariants as fault
 use Rattle.cadf_rehearsal.proofs.Turns.{at_site, site_log, site_takes, site_later, of_log, of_other_log}
-use Rattle.cadf_set.specs.Refusals.{IsOfLog}
-use Rattle.cadf_atom.specs.Contributions.{document_atoms}
 use Rattle.cadf_rehearsal.proofs.federation.Federation.learn.Goals as goal
 
 pub returns-in-Ok-clause-ok : goal.returns-in-Ok-clause-ok

@@ -1,4 +1,4 @@
-use Rattle.std.proofs.Common.{◌≡◌, replicate}
+use Rattle.cadf_rehearsal.proofs.Common.{◌≡◌, replicate}
 use Rattle.cadf_join.specs.Sets as set
 use Rattle.cadf_rehearsal.proofs.federation.Federation.new.Given as goal
 

@@ -1,8 +1,6 @@
-use Rattle.std.proofs.lemmas.Grind.{common_steps}
-use Rattle.std.proofs.Common.{Ok, ap, sym, ◌∙◌, arith}
+use Rattle.cadf_rehearsal.proofs.Common.{common_steps, Ok, ap, sym, ◌∙◌, arith, world_of}
 use Rattle.cadf_join.specs.Sets as set
 use Rattle.cadf_rehearsal.specs.Schedule as schedule
-use Rattle.cadf_rehearsal.specs.Federation.{world_of}
 use Rattle.cadf_rehearsal.proofs.Turns.{at_site, site_log, kept_later}
 use Rattle.cadf_rehearsal.proofs.Seen.{at_or_read, seen_posted}
 use Rattle.cadf_rehearsal.proofs.federation.Federation.send.Goals as goal

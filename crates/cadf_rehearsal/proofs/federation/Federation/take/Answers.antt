@@ -1,7 +1,4 @@
-use Rattle.std.proofs.Common.{subst, sym}
-use Rattle.std.specs.Result.{OnOk}
-use Rattle.cadf_rehearsal.specs.declared.turn.Turn.{Turn}
-use Rattle.cadf_rehearsal.specs.Federation.{TurnsTo}
+use Rattle.cadf_rehearsal.proofs.Common.{subst, sym, OnOk, Turn, TurnsTo}
 use Rattle.cadf_rehearsal.proofs.federation.Federation.take.Goals as goal
 
 pub returns-in-Deliver-clause-ok : goal.returns-in-Deliver-clause-ok

@@ -1,7 +1,4 @@
-use Rattle.std.proofs.Common.{◌∙◌, sym, ap}
-use Rattle.std.specs.Option.{option_copied}
-use Rattle.std.specs.Ordering.{is_lt}
-use Rattle.cadf_seal.specs.Shown.{is_below}
+use Rattle.cadf_seal.proofs.Common.{◌∙◌, sym, ap, option_copied, is_lt, is_below}
 use Rattle.cadf_seal.proofs.ShownLemmas.{none_left, some_left, no_fact, by_first}
 use Rattle.cadf_seal.proofs.proof.Facts.are_below.Goals as goal
 

@@ -1,5 +1,4 @@
-use Rattle.std.proofs.Common.{◌∙◌, sym, ap}
-use Rattle.std.specs.Ordering.{is_lt}
+use Rattle.cadf_seal.proofs.Common.{◌∙◌, sym, ap, is_lt}
 use Rattle.cadf_seal.proofs.ShownLemmas.{some_left, kept_all, dropped_one, next_left}
 use Rattle.cadf_seal.proofs.proof.Facts.drop_through.Goals as goal
 

@@ -1,5 +1,4 @@
-use Rattle.std.proofs.Common.{◌≡◌, length}
-use Rattle.cadf_seal.specs.Facts.{facts_left, AreAscending, facts_above}
+use Rattle.cadf_seal.proofs.Common.{◌≡◌, length, facts_left, AreAscending, facts_above}
 use Rattle.cadf_seal.proofs.proof.Facts.drop_through.Given as goal
 
 abbrev pub invariant-loop-self : goal.invariant-loop-self

@@ -1,8 +1,4 @@
-use Rattle.std.proofs.Common.{◌∙◌, None, length, ap, sym, subst, arith}
-use Rattle.cadf_join.specs.Sets.{rising}
-use Rattle.cadf_inventory.proofs.RisingLists.{rising_set}
-use Rattle.cadf_seal.specs.ProofFile.{AreRising, HasProofParts}
-use Rattle.cadf_seal.specs.Shown.{all_hidden}
+use Rattle.cadf_seal.proofs.Common.{◌∙◌, None, length, ap, sym, subst, arith, rising, rising_set, AreRising, HasProofParts, all_hidden}
 use Rattle.cadf_seal.proofs.ProofParts.{shown_rise, proof_parts}
 use Rattle.cadf_seal.proofs.proof.Proof.of.Goals as goal
 

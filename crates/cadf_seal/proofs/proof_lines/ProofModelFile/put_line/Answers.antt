@@ -1,6 +1,4 @@
-use Rattle.std.proofs.lemmas.Grind.{common_steps}
-use Rattle.std.proofs.Common.{◌∙◌, sym, arith}
-use Rattle.cadf_linefile.proofs.WritingLemmas.{on_ok}
+use Rattle.cadf_seal.proofs.Common.{common_steps, ◌∙◌, sym, arith, on_ok}
 use Rattle.cadf_seal.proofs.ProofLineLemmas.{cause_at, count_told, values_told}
 use Rattle.cadf_seal.proofs.proof_lines.ProofModelFile.put_line.Goals as goal
 

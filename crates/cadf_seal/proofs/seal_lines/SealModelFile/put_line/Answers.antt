@@ -1,4 +1,4 @@
-use Rattle.std.proofs.Common.{◌∙◌, sym}
+use Rattle.cadf_seal.proofs.Common.{◌∙◌, sym}
 use Rattle.cadf_seal.proofs.SealLemmas.{count_told}
 use Rattle.cadf_seal.proofs.seal_lines.SealModelFile.put_line.Goals as goal
 

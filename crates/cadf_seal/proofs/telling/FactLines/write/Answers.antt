@@ -1,9 +1,4 @@
-use Rattle.std.proofs.lemmas.Grind.{common_steps}
-use Rattle.std.proofs.Common.{◌≡◌, ◌∙◌, ◌++◌, ◌+◌, ◌-◌, ap, subst, drop, arith}
-use Rattle.std.specs.List.{repeat}
-use Rattle.std.proofs.lemmas.Result.{err_from_is_err_and}
-use Rattle.cadf_json.specs.Streams.{AppendsPrefix}
-use Rattle.cadf_seal.specs.Verified.{repeated_text}
+use Rattle.cadf_seal.proofs.Common.{common_steps, ◌≡◌, ◌∙◌, ◌++◌, ◌+◌, ◌-◌, ap, subst, drop, arith, repeat, err_from_is_err_and, AppendsPrefix, repeated_text}
 use Rattle.cadf_seal.proofs.Repeating.{repeat_more, line_written, front_written}
 use Rattle.cadf_seal.proofs.telling.FactLines.write.Goals as goal
 

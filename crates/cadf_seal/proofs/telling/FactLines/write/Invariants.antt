@@ -1,6 +1,4 @@
-use Rattle.std.proofs.Common.{◌≡◌, ◌++◌, ◌+◌, ◌-◌, drop}
-use Rattle.std.specs.List.{repeat}
-use Rattle.cadf_seal.specs.Verified.{repeated_text}
+use Rattle.cadf_seal.proofs.Common.{◌≡◌, ◌++◌, ◌+◌, ◌-◌, drop, repeat, repeated_text}
 use Rattle.cadf_seal.proofs.Repeating.{IsLeft}
 use Rattle.cadf_seal.proofs.telling.FactLines.write.Given as goal
 

@@ -1,7 +1,4 @@
-use Rattle.std.proofs.lemmas.Grind.{common_steps}
-use Rattle.std.proofs.Common.{arith}
-use Rattle.std.proofs.lemmas.List.{with_items_is}
-use Rattle.cadf_sketch.specs.Sketches.{cells_of, sketch_of}
+use Rattle.cadf_sketch.proofs.Common.{common_steps, arith, with_items_is, cells_of, sketch_of}
 use Rattle.cadf_sketch.proofs.WholeLemmas.{sketch_parts}
 use Rattle.cadf_sketch.proofs.sketch.Sketch.of.Goals as goal
 

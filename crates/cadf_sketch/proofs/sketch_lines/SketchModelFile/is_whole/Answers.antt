@@ -1,7 +1,4 @@
-use Rattle.std.proofs.Common.{◌∙◌, ap, sym, subst}
-use Rattle.std.specs.Prelude.{nat_eq}
-use Rattle.cadf_sketch.specs.SketchVerdict.{is_whole}
-use Rattle.cadf_sketch.specs.SketchLines.{told_lines, AreTold}
+use Rattle.cadf_sketch.proofs.Common.{◌∙◌, ap, sym, subst, nat_eq, is_whole, told_lines, AreTold}
 use Rattle.cadf_sketch.proofs.ToldLemmas.{whole_told}
 use Rattle.cadf_sketch.proofs.sketch_lines.SketchModelFile.is_whole.Goals as goal
 

@@ -1,5 +1,4 @@
-use Rattle.std.proofs.lemmas.Grind.{common_steps}
-use Rattle.std.proofs.Common.{get_or, arith}
+use Rattle.cadf_sketch.proofs.Common.{common_steps, get_or, arith}
 use Rattle.cadf_sketch.proofs.WriteLemmas.{cell_there}
 use Rattle.cadf_sketch.proofs.sketch_lines.SketchModelFile.line_at.Goals as goal
 

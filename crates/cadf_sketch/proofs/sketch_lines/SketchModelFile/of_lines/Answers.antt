@@ -1,6 +1,4 @@
-use Rattle.std.proofs.Common.{◌≡◌, true, subst}
-use Rattle.cadf_sketch.specs.SketchVerdict.{is_whole}
-use Rattle.cadf_sketch.specs.SketchLines.{told_lines, AreTold}
+use Rattle.cadf_sketch.proofs.Common.{◌≡◌, true, subst, is_whole, told_lines, AreTold}
 use Rattle.cadf_sketch.proofs.ToldLemmas.{parts_told}
 use Rattle.cadf_sketch.proofs.sketch_lines.SketchModelFile.of_lines.Goals as goal
 

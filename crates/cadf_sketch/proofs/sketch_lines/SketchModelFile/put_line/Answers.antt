@@ -1,11 +1,4 @@
-use Rattle.std.proofs.lemmas.Grind.{common_steps}
-use Rattle.std.proofs.Common.{arith, ◌≡◌, ◌∙◌, ◌∷◌, [], None, sym, subst}
-use Rattle.std.specs.Prelude.{IfErr}
-use Rattle.cadf_linefile.specs.Answers.{CauseIs}
-use Rattle.cadf_linefile.proofs.WritingLemmas.{on_ok}
-use Rattle.cadf_sketch.specs.SketchFile.{head_line}
-use Rattle.cadf_sketch.specs.SketchLines.{AreTold, AreCellsOf}
-use Rattle.cadf_sketch.specs.SketchVerdict.{cause_after}
+use Rattle.cadf_sketch.proofs.Common.{common_steps, arith, ◌≡◌, ◌∙◌, ◌∷◌, [], None, sym, subst, IfErr, CauseIs, on_ok, head_line, AreTold, AreCellsOf, cause_after}
 use Rattle.cadf_sketch.proofs.ToldLemmas.{head_told, lines_told, tally_told, cell_cause, cell_told}
 use Rattle.cadf_sketch.proofs.sketch_lines.SketchModelFile.put_line.Goals as goal
 
