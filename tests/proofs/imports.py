@@ -9,12 +9,14 @@ what comes from the crate's own proofs, and a name by which other files of the c
 """
 import argparse
 import collections
+import functools
 import glob
 import os
 import re
 import sys
 
-TOP = os.path.dirname(os.path.dirname(os.path.dirname(os.path.realpath(__file__))))
+from tests import TOP
+
 KIT = "/opt/rattle/rattle"
 LIST = re.compile(r"^((?:unfoldable )?(?:pub )?)use ([^{}\s]+)\.\{(.*)\}$")
 
@@ -33,32 +35,26 @@ class Name(collections.namedtuple("Name", "module path shown")):
 
 def file_of(module):
     """Returns the file of a module, or None if it is in none that can be read: the kit writes some itself."""
-    parts = module.split(".")
-    places = {"Rattle": [os.path.join(TOP, "crates"), KIT]}.get(parts[0])
-    if places:
-        stems = [os.path.join(place, *parts[1:]) for place in places]
-    else:
-        stems = [os.path.join(place, *parts[1:]) for place in glob.glob(os.path.join(KIT, "antt", "*", parts[0], "src"))]
-    return next((name for stem in stems for name in (stem + ".antt", os.path.join(stem, "Lib.antt")) if os.path.isfile(name)), None)
+    library, *parts = module.split(".")
+    places = [os.path.join(TOP, "crates"), KIT] if library == "Rattle" else [os.path.join(KIT, "antt", "port", library, "src")]
+    stems = [os.path.join(place, *parts) for place in places]
+    names = [name for stem in stems for name in (stem + ".antt", os.path.join(stem, "Lib.antt"))]
+    return next(filter(os.path.isfile, names), None)
 
 
-def lines_of(name, kept={}):
-    if name not in kept:
-        with open(name, encoding="utf-8") as file:
-            kept[name] = file.read().split("\n")
-    return kept[name]
+@functools.lru_cache(None)
+def lines_of(name):
+    with open(name, encoding="utf-8") as file:
+        return file.read().split("\n")
 
 
-def passed_on(module, kept={}):
+@functools.lru_cache(None)
+def passed_on(module):
     """Returns where a module has the names from that it passes on: of each the name as it is written there."""
-    if module not in kept:
-        found, name = {}, file_of(module)
-        for line in lines_of(name) if name else ():
-            match = LIST.match(line.strip())
-            if match and "pub" in match[1]:
-                found.update((one.shown, one) for one in (Name.read(match[2], text) for text in match[3].split(",")))
-        kept[module] = found
-    return kept[module]
+    name = file_of(module)
+    lists = filter(None, map(LIST.match, lines_of(name) if name else ()))
+    taken = [Name.read(match[2], text) for match in lists if "pub" in match[1] for text in match[3].split(",")]
+    return {name.shown: name for name in taken}
 
 
 def origin(name):
@@ -112,7 +108,7 @@ class File:
 
     def text(self, crate, shared):
         """Returns the file with its names from Common, where that has them."""
-        here = list(dict.fromkeys(name.shown for name in self.names if shared.get(name.shown) == origin(name)))
+        here = list(dict.fromkeys(name.shown for name in self.names if shared[name.shown][1] == origin(name)))
         there = {}
         for name in self.names:
             if name.shown not in here:
@@ -127,16 +123,21 @@ def written(words, module, names):
     return "%s %s.{%s}" % (words, module, ", ".join(map(str, names)))
 
 
-def chosen(files):
-    """Returns what Common has: for each name what most files mean by it, and how it is written there."""
-    meant, as_written = {}, {}
+def chosen(crate, files):
+    """Returns what Common has, by the word that files have for it: how it is written, and what most files mean.
+
+    Of two meanings that as many files have, the one that Common has now stays.
+    """
+    now = passed_on(common_of(crate))
+    written_so = collections.defaultdict(collections.Counter)
     for file in files:
         for name in set(file.names):
-            meant.setdefault(name.shown, collections.Counter())[origin(name)] += 1
-            as_written.setdefault((name.shown, origin(name)), collections.Counter())[name] += 1
-    shared = {shown: min(counts, key=lambda one: (-counts[one], one)) for shown, counts in meant.items()}
-    best = lambda counts: min(counts, key=lambda one: (-counts[one], one))
-    return shared, {shown: best(as_written[shown, one]) for shown, one in shared.items()}
+            written_so[name.shown, origin(name)][name] += 1
+    found = {}
+    for (shown, meant), names in written_so.items():
+        how = min(names, key=lambda name: (-names[name], name))
+        found.setdefault(shown, []).append((-sum(names.values()), how != now.get(shown), how, meant))
+    return {shown: min(choices)[2:] for shown, choices in found.items()}
 
 
 def common_text(names, unfolded):
@@ -152,7 +153,8 @@ def common_text(names, unfolded):
 def texts(crate):
     """Returns the text that each file of a crate's proofs should have, by its name."""
     files = [File(crate, name) for name in proof_files(crate)]
-    shared, names = chosen(files)
+    shared = chosen(crate, files)
+    names = {shown: name for shown, (name, meant) in shared.items()}
     top = os.path.join(TOP, "crates", crate, "proofs")
     root = os.path.join(top, "Lib.antt")
     rest = [line for line in (lines_of(root) if os.path.exists(root) else []) if line not in ("", "pub mod Common")]
@@ -162,15 +164,22 @@ def texts(crate):
     return found
 
 
+def differing(crates):
+    """Returns the text of each file that should have another one than it has, by its name."""
+    found = {name: text for crate in crates for name, text in texts(crate).items()}
+    return {name: text for name, text in found.items() if not os.path.exists(name) or "\n".join(lines_of(name)) != text}
+
+
+def proved_crates():
+    return sorted(name for name in os.listdir(os.path.join(TOP, "crates")) if proof_files(name))
+
+
 def main():
     parser = argparse.ArgumentParser(description=__doc__, formatter_class=argparse.RawDescriptionHelpFormatter)
     parser.add_argument("--write", action="store_true")
     parser.add_argument("crates", metavar="CRATE", nargs="*")
     options = parser.parse_args()
-    crates = options.crates or sorted(name for name in os.listdir(os.path.join(TOP, "crates")) if proof_files(name))
-    others = {}
-    for crate in crates:
-        others.update((name, text) for name, text in texts(crate).items() if not os.path.exists(name) or "\n".join(lines_of(name)) != text)
+    others = differing(options.crates or proved_crates())
     for name, text in sorted(others.items()):
         if options.write:
             with open(name, "w", encoding="utf-8") as file:
