@@ -4,7 +4,7 @@ pub use Rattle.cadf_json.specs.Flat.{IsFlatValue, IsSettled, IsTextAt, ItemsStan
 pub use Rattle.cadf_json.specs.Fronts.{AreBytes, IsFront, first_bytes}
 pub use Rattle.cadf_json.specs.Laws.{BytesSpellValues, TextIsInjective}
 pub use Rattle.cadf_json.specs.Number.{num_of}
-pub use Rattle.cadf_json.specs.Parts.{is_object, items_in, members_in, names_in, names_of, parts_in, to_list, values_of}
+pub use Rattle.cadf_json.specs.Parts.{is_object, items_in, joined, members_in, names_in, names_of, parts_in, to_list, values_of}
 pub use Rattle.cadf_json.specs.Reading.{AreNamed, Copied, Entry, Grown, IsFirstMember, StandsAsRead, is_name_above, is_replaced, lasts, put_named}
 pub use Rattle.cadf_json.specs.Rewritten.{all_members, is_one_of, limit_for, limits_of, replaced, texts_of, without}
 pub use Rattle.cadf_json.specs.TokenUtf8.{HasUtf8, HaveUtf8}

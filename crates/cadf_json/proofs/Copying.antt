@@ -1,8 +1,8 @@
 -- Nodes that are copied with members in order: the loops over items and over members.
-use Rattle.cadf_json.proofs.Common.{common_steps, ◌≡◌, ℕ, ◌+◌, ◌-◌, ◌<◌, ◌≤◌, List, [], ◌∷◌, ◌++◌, length, set, drop, refl, sym, ap, ◌∙◌, subst, arith, inl, inr, append_assoc, append-nil, length-append, slice_index_or, Data, null, boolean, number, string, array, object, Items, no_items, Members, no_members, member, Extent, Place, Node, Null, Truth, Whole, Fraction, Text, Array, Object, IsTextAt, Stands, ItemsStand, MembersStand, items_count, members_count, put_all, settled, settled_items, settled_members, Entry, Copied, AreNamed}
+use Rattle.cadf_json.proofs.Common.{common_steps, ◌≡◌, ℕ, ◌+◌, ◌-◌, ◌<◌, ◌≤◌, List, [], ◌∷◌, ◌++◌, length, set, drop, refl, sym, ap, ◌∙◌, subst, arith, inl, inr, append_assoc, append-nil, length-append, slice_index_or, Data, null, boolean, number, string, array, object, Items, no_items, Members, no_members, member, Extent, Place, Node, Null, Truth, Whole, Fraction, Text, Array, Object, IsTextAt, Stands, ItemsStand, MembersStand, items_count, members_count, put_all, settled, settled_items, settled_members, Entry, Copied, AreNamed, joined}
 use Rattle.cadf_json.proofs.Firsts.{FirstItem, no_item, tail_of, tail_is}
 use Rattle.cadf_json.proofs.Loops.{closed_at, size_is}
-use Rattle.cadf_json.proofs.Orders.{joined, joined-none, joined-one}
+use Rattle.cadf_json.proofs.Orders.{joined-none, joined-one}
 use Rattle.cadf_json.proofs.Passing.{with_last, followed, followed-none, followed-last}
 use Rattle.cadf_json.proofs.Settling.{settled_last, settled_joined, settled_count, settled_all}
 use Rattle.cadf_json.proofs.Standing.{items_last, members_last, count_joined}

@@ -1,7 +1,7 @@
 -- The loops of the descent: items and members, appended as they are read.
-use Rattle.cadf_json.proofs.Common.{common_steps, ◌≡◌, ℕ, zero, suc, ◌+◌, ◌-◌, ◌<◌, ◌≤◌, List, [], ◌∷◌, ◌++◌, length, set, Bool, true, ◌&&◌, Option, Some, None, option_map, refl, sym, ap, ap₂, ◌∙◌, subst, arith, append_assoc, append-nil, length-append, Ordering, Less, nat_cmp, slice_cmp, set-append_seam, Token, Parse, parse_map, after_end_array, read_key, items, members, value, opens, items_fail, items_more, members_fail, members_more, members_no_key, Data, array, object, Items, no_items, Members, no_members, member, put, of_json, of_items, of_members, converted, is_name_above, and_parts, is_lt, Node, Null, Text, Array, Object, Extent, IsTextAt, TextStands, ItemsStand, MembersStand, items_count, members_count, put_all, settled_items, settled_members, Grown, StandsAsRead}
+use Rattle.cadf_json.proofs.Common.{common_steps, ◌≡◌, ℕ, zero, suc, ◌+◌, ◌-◌, ◌<◌, ◌≤◌, List, [], ◌∷◌, ◌++◌, length, set, Bool, true, ◌&&◌, Option, Some, None, option_map, refl, sym, ap, ap₂, ◌∙◌, subst, arith, append_assoc, append-nil, length-append, Ordering, Less, nat_cmp, slice_cmp, set-append_seam, Token, Parse, parse_map, after_end_array, read_key, items, members, value, opens, items_fail, items_more, members_fail, members_more, members_no_key, Data, array, object, Items, no_items, Members, no_members, member, put, of_json, of_items, of_members, converted, is_name_above, and_parts, is_lt, Node, Null, Text, Array, Object, Extent, IsTextAt, TextStands, ItemsStand, MembersStand, items_count, members_count, put_all, settled_items, settled_members, Grown, StandsAsRead, joined}
 use Rattle.json.specs.Json as json
-use Rattle.cadf_json.proofs.Orders.{AreBelow, joined, push_if_last, AreBelow-further, AreBelow-joined}
+use Rattle.cadf_json.proofs.Orders.{AreBelow, push_if_last, AreBelow-further, AreBelow-joined}
 use Rattle.cadf_json.proofs.Passing.{followed, followed-none, with_last, further as further_items, parsed_none}
 use Rattle.cadf_json.proofs.Turns.{item_read, items_over, member_read, members_over}
 use Rattle.cadf_json.proofs.Settling.{settled_last, settled_joined}

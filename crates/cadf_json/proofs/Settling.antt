@@ -1,6 +1,5 @@
 -- Values whose members are put in order, at every depth.
-use Rattle.cadf_json.proofs.Common.{common_steps, ◌≡◌, ℕ, List, [], ◌++◌, Bool, true, refl, sym, ap, ◌∙◌, subst, arith, Ordering, nat_cmp, slice_cmp, Data, Items, no_items, item, Members, no_members, member, put, Stands, put_all, items_count, settled, settled_items, settled_members, Grown, StandsAsRead, Node}
-use Rattle.cadf_json.proofs.Orders.{joined}
+use Rattle.cadf_json.proofs.Common.{common_steps, ◌≡◌, ℕ, List, [], ◌++◌, Bool, true, refl, sym, ap, ◌∙◌, subst, arith, Ordering, nat_cmp, slice_cmp, Data, Items, no_items, item, Members, no_members, member, put, Stands, put_all, items_count, settled, settled_items, settled_members, Grown, StandsAsRead, Node, joined}
 use Rattle.cadf_json.proofs.Passing.{with_last}
 
 -- a value without members was read as it is

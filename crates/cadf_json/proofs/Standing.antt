@@ -1,6 +1,5 @@
 -- The nodes of a value stay its nodes when texts are appended, and one more item or member follows the others.
-use Rattle.cadf_json.proofs.Common.{common_steps, ◌≡◌, ℕ, suc, ◌≤◌, List, [], ◌∷◌, ◌++◌, length, refl, sym, ap, ◌∙◌, arith, inl, inr, append_assoc, append-nil, length-append, length-drop, slice_range, take-append-le, drop-append-le, Num, Data, null, boolean, number, string, array, object, Items, no_items, item, Members, no_members, member, Node, Text, Place, IsTextAt, NumberStands, Stands, ItemsStand, MembersStand, items_count, members_count}
-use Rattle.cadf_json.proofs.Orders.{joined}
+use Rattle.cadf_json.proofs.Common.{common_steps, ◌≡◌, ℕ, suc, ◌≤◌, List, [], ◌∷◌, ◌++◌, length, refl, sym, ap, ◌∙◌, arith, inl, inr, append_assoc, append-nil, length-append, length-drop, slice_range, take-append-le, drop-append-le, Num, Data, null, boolean, number, string, array, object, Items, no_items, item, Members, no_members, member, Node, Text, Place, IsTextAt, NumberStands, Stands, ItemsStand, MembersStand, items_count, members_count, joined}
 use Rattle.cadf_json.proofs.Passing.{with_last}
 
 pub range_append : {A : Type 0} (xs ys : List A) (a b : ℕ) → a ≤ b → b ≤ length xs → slice_range (xs ++ ys) a b ≡ slice_range xs a b

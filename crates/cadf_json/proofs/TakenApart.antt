@@ -1,9 +1,8 @@
 -- Members that are read while the items of one list are taken apart.
-use Rattle.cadf_json.proofs.Common.{common_steps, ◌≡◌, ℕ, ◌+◌, ◌-◌, ◌<◌, ◌≤◌, List, [], ◌∷◌, ◌++◌, length, set, Bool, true, false, true≢false, ◌&&◌, ◌||◌, if◌then◌else◌, Option, Some, None, option_map, bytes_eq, refl, sym, ap, ap₂, ◌∙◌, subst, arith, Ordering, Less, Equal, Greater, nat_cmp, slice_cmp, or_parts, bytes_eq-Decides, Token, Parse, read_key, members, Data, array, object, Items, no_items, Members, no_members, member, put, depth, members_depth, get_member, of_json, of_members, converted, has_float, members_have_float, get_member-put, a_fraction, emptied, emptied_at, emptied_in, AreTaken, TookItems, is_name_above, TextStands, put_all, is_one_of, without, Grown, StandsAsRead, IsWhole, MembersAreWhole, RisesFrom, Rises, IsValue, Node, Extent, Null, Object, and_parts}
+use Rattle.cadf_json.proofs.Common.{common_steps, ◌≡◌, ℕ, ◌+◌, ◌-◌, ◌<◌, ◌≤◌, List, [], ◌∷◌, ◌++◌, length, set, Bool, true, false, true≢false, ◌&&◌, ◌||◌, if◌then◌else◌, Option, Some, None, option_map, bytes_eq, refl, sym, ap, ap₂, ◌∙◌, subst, arith, Ordering, Less, Equal, Greater, nat_cmp, slice_cmp, or_parts, bytes_eq-Decides, Token, Parse, read_key, members, Data, array, object, Items, no_items, Members, no_members, member, put, depth, members_depth, get_member, of_json, of_members, converted, has_float, members_have_float, get_member-put, a_fraction, emptied, emptied_at, emptied_in, AreTaken, TookItems, is_name_above, TextStands, put_all, is_one_of, without, Grown, StandsAsRead, IsWhole, MembersAreWhole, RisesFrom, Rises, IsValue, Node, Extent, Null, Object, and_parts, joined}
 use Rattle.json.specs.Json as json
 use Rattle.cadf_json.proofs.Looks.{member_here, member_passed}
 use Rattle.cadf_json.proofs.Loops.{MembersRead, members_start, one_more_member, all_members, put_last}
-use Rattle.cadf_json.proofs.Orders.{joined}
 use Rattle.cadf_json.proofs.Rewriting.{get-put}
 use Rattle.cadf_json.proofs.Splits.{same_name}
 

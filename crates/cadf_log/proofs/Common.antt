@@ -37,12 +37,12 @@ pub use Rattle.cadf_join.specs.laws.Maps.{has_head}
 pub use Rattle.cadf_join.specs.laws.Rising.{AllByRecursion-listed, listed-AllByRecursion, listed-rising, rising-listed, rising_is_sorted, sorted_keys_are_sorted, sorted_once}
 pub use Rattle.cadf_json.proofs.Built.{members_put}
 pub use Rattle.cadf_json.proofs.Looks.{member_in}
-pub use Rattle.cadf_json.proofs.Orders.{AreBelow, AreBelow-further, AreBelow-joined, greater-from_less, joined, joined-none, joined-one, less-from_greater, push_if_last}
+pub use Rattle.cadf_json.proofs.Orders.{AreBelow, AreBelow-further, AreBelow-joined, greater-from_less, joined-none, joined-one, less-from_greater, push_if_last}
 pub use Rattle.cadf_json.proofs.PlainRuns.{spelled_whole}
 pub use Rattle.cadf_json.proofs.Rewriting.{all-put, get-left_out, get-put, without-put}
 pub use Rattle.cadf_json.proofs.TextBytes.{text_utf8}
 pub use Rattle.cadf_json.proofs.Texts.{HasNumbers-outline, has_float-IsWhole, read-text}
-pub use Rattle.cadf_json.specs.Parts.{is_object, members_in, to_list}
+pub use Rattle.cadf_json.specs.Parts.{is_object, joined, members_in, to_list}
 pub use Rattle.cadf_json.specs.Rewritten.{all_members, is_one_of, limit_for, replaced, without}
 pub use Rattle.cadf_json.specs.Streams.{AppendsPrefix, counted, is_write_fault, one_more}
 pub use Rattle.cadf_json.specs.Value.{IsValue, IsWhole, IsWholeNumber, ItemsAreWhole, MembersAreWhole, Rises, RisesFrom, SpellsValue, text}
