@@ -1,4 +1,4 @@
-"""What is installed: the command, the tools around it with their parts, the manual page, pages, examples, completions.
+"""What is installed: the command, the tools around it with their parts, manual pages, pages, examples, completions.
 
 install/install puts these files under a prefix, install/package into a package.
 """
@@ -9,7 +9,7 @@ import subprocess
 from typing import NamedTuple
 
 from build import record
-from install import sbom
+from install import manual, sbom
 
 # The pages keep the places that they name each other by, so TOP=PREFIX/share/doc/cadf serves the commands that they show.
 DOC = "share/doc/cadf"
@@ -85,7 +85,7 @@ def files(top):
     for name in names_below(top, "tools"):
         tool = os.path.basename(name)
         yield file_of(top, name, "bin/" + tool)
-        yield File("share/man/man1/%s.1" % tool, 0o644, b".so man1/cadf.1\n")  # `man cadf-take` shows the one page
+        yield File("share/man/man1/%s.1" % tool, 0o644, manual.page_of(top, tool))
     for name in names_below(top, "share"):
         yield file_of(top, name, name)
     yield File("share/cadf/version", 0o644, version(top))

@@ -13,7 +13,6 @@ from tests.reference import events, json_text, sketch_files
 from tests.tables import rows
 
 TOOLS = sorted(name for name in os.listdir(os.path.join(TOP, "tools")) if name.startswith("cadf-"))
-UNITS = {"MiB": 2 ** 20, "KiB": 2 ** 10}
 USERS = "README.md docs/SECURITY.md docs/GUIDE.md docs/ERRORS.md docs/LIBRARY.md"  # a limit is in the page of its kind
 
 
@@ -77,29 +76,6 @@ def test_statuses_of_readme():
 def test_limit(name, text):
     """The pages have the limits at which the second implementation refuses, which the rows try on both sides: of several, one."""
     assert any(text in text_of(each).replace("\n", " ") for each in name.split() if os.path.exists(os.path.join(TOP, each)))
-
-
-def number(text):
-    """A number of a page: `64 MiB`, `2^30`, `1,000`."""
-    digits, _, unit = text.partition(" ")
-    base, _, power = digits.replace(",", "").partition("^")
-    return int(base) ** int(power or 1) * UNITS.get(unit, 1)
-
-
-NUMBER = r"(\d[\d,]*(?:\^\d+)?(?: [MK]iB)?)"
-
-
-@pytest.mark.parametrize("tool", TOOLS)
-def test_defaults(tool):
-    """The manual page has the defaults that a tool tells."""
-    manual = text_of("share", "man", "man1", "cadf.1").replace("\\-", "-")
-    section = re.split(r"(?m)^\.S[SH] ", manual.split("\n.SS %s\n" % tool)[1])[0]
-    for block in re.split(r"\n  (?=-)", help_of(tool))[1:]:
-        default = re.search("default(?:: |, and at most: )" + NUMBER, block)
-        if default:
-            option = re.match(r"--[a-z-]+", block).group()
-            found = {number(each) for item in section.split(".TP\n") if option in item for each in re.findall(NUMBER, item)}
-            assert number(default[1]) in found, option
 
 
 @pytest.mark.parametrize("tool", TOOLS)

@@ -65,20 +65,15 @@ def run(prefix):
     return lambda program, *words, **options: ended(str(prefix / "bin" / program), words, env=environment, **options)
 
 
-def page_of(prefix):
-    """The installed manual page, with its dashes as they are typed."""
-    return (prefix / "share/man/man1/cadf.1").read_text(encoding="utf-8").replace("\\-", "-")
-
-
-def section(page, name):
-    """The section of a tool, without calls of other tools."""
-    text = re.split(r"(?m)^\.S[SH] ", page.split("\n.SS %s\n" % name)[1])[0]
-    return re.sub(r"(?!%s )cadf-[a-z-]+ --[a-z-]+" % name, "", text)
+def page_of(prefix, program="cadf"):
+    """The installed manual page of a program, with its dashes as they are typed."""
+    return (prefix / "share/man/man1" / (program + ".1")).read_text(encoding="utf-8").replace("\\-", "-")
 
 
 @pytest.mark.needs("groff")
-def test_manual_has_no_warning(prefix):
-    done = ended("groff", ["-man", "-Tascii", "-ww", "-z", str(prefix / "share/man/man1/cadf.1")])
+@pytest.mark.parametrize("program", ["cadf", *TOOLS])
+def test_manual_has_no_warning(prefix, program):
+    done = ended("groff", ["-man", "-Tascii", "-ww", "-z", str(prefix / "share/man/man1" / (program + ".1"))])
     assert (done.status, done.error) == (0, b"")
 
 
@@ -104,12 +99,13 @@ def test_commands(run, prefix):
 
 @pytest.mark.parametrize("tool", TOOLS)
 def test_tool(run, prefix, tool):
-    """It runs, a guide names it, and its section of the page has its options."""
-    done, manual = run(tool, "--help"), page_of(prefix)
+    """It runs, a guide names it, the command's page does, and its own page has an item for each of its options."""
+    done, manual = run(tool, "--help"), page_of(prefix, tool)
     assert done.status == 0
-    assert set(LONG_OPTION.findall(done.output.decode())) - {"--help", "--version"} == set(LONG_OPTION.findall(section(manual, tool)))
+    assert set(re.findall(r"(?m)^  (?:-\w, )?(--[a-z-]+)", done.output.decode())) == set(re.findall(r"\.TP\n\.B (?:-\w, )?(--[a-z-]+)", manual))
+    assert re.match(r'\.TH %s 1 "[\d-]+" "cadf [\d.]+" "User Commands"\n\.SH NAME\n%s - [a-z]' % (tool.upper(), tool), manual)
+    assert "\n.TP\n.BR %s (1)\n" % tool in page_of(prefix)
     assert any(tool in text_of("docs", name) for name in os.listdir(os.path.join(TOP, "docs")) if name.endswith(".md"))
-    assert (prefix / "share/man/man1" / (tool + ".1")).read_text() == ".so man1/cadf.1\n"
 
 
 def test_links(prefix):
