@@ -6,48 +6,13 @@ import pytest
 from tests import text_of
 from tests.command.commands import COMMANDS
 from tests.library.declarations import declared
-from tests.tables.completions import COMMANDS as NAMES, TABLE, WORDS, operands, options
-
-# How each kind of word is written in a synopsis.
-SHOWN = {"File": "{0}", "Files": "{0}...", "Text": "{0}", "Option": "[--{0} {1}]", "Unit": "--{0} UNIT", "More": "[--{0} FILE]...", "Flag": "[--{0}]"}
-
-
-def shown(words):
-    return " ".join(SHOWN[word.kind].format(word.name, word.value) for word in words)
-
-
-def synopsis(name):
-    return " ".join(["cadf", name, shown([*options(name), *operands(name)])])
-
-
-def plain(roff):
-    """A synopsis of the manual page without its requests."""
-    text = ""
-    for line in roff.splitlines():
-        request, _, words = line.partition(" ")
-        text += " " + ("".join(words.split()) if request in (".RB", ".IR", ".RI") else words)
-    return text.strip()
-
-
-def synopses():
-    """Those of the manual page."""
-    text = text_of("share", "man", "man1", "cadf.1").replace("\\-", "-").split(".SH DESCRIPTION")[0]
-    return [plain(each) for each in re.findall(r"(?m)^(\.B cadf [a-z-]+\n(?:(?!\.br|\.SH).*\n)*)", text)]
-
+from tests.tables.completions import COMMANDS as NAMES, TABLE, WORDS, operands
+from tests.tables.synopses import shown, synopsis
 
 def test_table():
     """All of the table was read."""
     assert len(NAMES) == TABLE.split("COMMANDS", 1)[1].split("= &[", 1)[1].count("&[")
     assert len({word for words in WORDS.values() for word in words}) == TABLE.count("Kind::")
-
-
-def test_manual():
-    assert sorted(synopses()) == sorted([*map(synopsis, NAMES), "cadf help [COMMAND]"])
-
-
-@pytest.mark.parametrize("name", NAMES)
-def test_formats(name):
-    assert "\n| `%s` | " % synopsis(name) in text_of("docs", "FORMATS.md")
 
 
 def test_readme():
@@ -72,10 +37,10 @@ def test_operands(name):
 
 
 def test_worked_flag():
-    """CONTRIBUTING shows what a flag adds by lines that are there, in at most 15 files."""
+    """CONTRIBUTING shows what a flag adds by lines that are there, in at most 14 files."""
     diff = text_of("CONTRIBUTING.md").split("```diff\n")[1].split("```")[0]
     parts = re.split(r"(?m)^\+\+\+ (.*)\n", diff)[1:]
-    assert len(parts) // 2 <= 15
+    assert len(parts) // 2 <= 14
     for name, lines in zip(parts[::2], parts[1::2]):
         found = text_of(name).split("\n")
         assert [line for line in lines.splitlines() if line[1:] not in found] == [], name

@@ -1,7 +1,8 @@
-"""Writes what the drivers are run on, and what they must answer, from their tables; and the completions.
+"""Writes what the drivers are run on, and what they must answer, from their tables; and what shows the command's words.
 
     python3 -m tests.tables.make                 writes crates/drivers/stdin and crates/drivers/stdout from all tables, and
-                                                 share/ has the completions, from the table of cadf_words
+                                                 from the table of cadf_words the completions in share/, and
+                                                 how each command is called in FORMATS and the manual page
     python3 -m tests.tables.make --check         compares them, and names the first difference
     python3 -m tests.tables.make --answers FILE  lists each row that FILE, the output of crates/drivers, answers otherwise
 
@@ -18,7 +19,7 @@ import re
 import sys
 
 from tests import TOP, text_of
-from tests.tables import completions
+from tests.tables import completions, synopses
 from tests.tables.fields import line
 
 FOLDER = os.path.join(TOP, "tests", "tables")
@@ -79,10 +80,10 @@ def rows():
 
 
 def made():
-    """The two files of the drivers and those of the completions, by their paths."""
+    """The two files of the drivers, those of the completions and the pages that show the command's words, by their paths."""
     folder = os.path.join(TOP, "crates", "drivers")
     _, asked, answered = zip(*rows())
-    return {os.path.join(folder, "stdin"): "".join(asked), os.path.join(folder, "stdout"): "".join(answered), **completions.made()}
+    return {os.path.join(folder, "stdin"): "".join(asked), os.path.join(folder, "stdout"): "".join(answered), **completions.made(), **synopses.made()}
 
 
 def tell():
