@@ -306,6 +306,24 @@ class EventIndex:
             self.numbers[text] = found[0] if found else self.run("INSERT INTO texts (hash, text) VALUES (?, ?)", words).lastrowid
         return self.numbers[text]
 
+    # Whether it has what the windows have
+
+    def has_read(self, part, each):
+        """Whether it has of a window what was read of it, if it has it of the same files."""
+        found = self.run("SELECT id, files, bytes FROM windows WHERE name = ?", (part,)).fetchone()
+        if found is None or found[1] != files_of(each.digests):
+            return True
+        texts = dict(enumerate([None, *(text if len(text) <= LONGEST_TEXT else None for text in each.texts)]))
+        rows = self.run("SELECT key, second, nanosecond, %s FROM bodies %s WHERE window = ?" % (
+            ", ".join("%s.text" % column for column in COLUMNS), " ".join("LEFT JOIN texts AS {0} ON {0}.id = bodies.{0}".format(column) for column in COLUMNS)), found[:1])
+        own = "(SELECT key FROM bodies WHERE window = ?)"
+        counted = self.run("SELECT key FROM bodies WHERE key IN %s GROUP BY key HAVING count(*) > 1" % own, found[:1]).fetchall()
+        several = self.run("SELECT key FROM several WHERE key IN %s" % own, found[:1]).fetchall()
+        places = self.run("SELECT key, digest, begin, length, hash FROM places WHERE window = ?", found[:1]).fetchall()
+        return (found[2] == each.size and set(counted) == set(several)
+                and collections.Counter(rows) == collections.Counter((*row[:3], *map(texts.get, row[3:])) for row in each.rows)
+                and set(places) == {(key, *place) for key, in counted for place in each.places[key]})
+
     # What it says of a question
 
     def ask(self, question):
@@ -408,3 +426,8 @@ class EventIndex:
         with self.changing():
             self.connection.executemany("INSERT OR REPLACE INTO kept VALUES (?, ?, ?, ?, ?)", ((kind, files, *row) for files, row in rows.items()))
             self.connection.executemany("DELETE FROM kept WHERE kind = ? AND files = ?", ((kind, files) for files in self.kept(kind).keys() - wanted))
+
+    def forget(self, keys, but):
+        """Forgets what is kept of these files, but for that kind."""
+        with self.changing():
+            self.connection.executemany("DELETE FROM kept WHERE files = ? AND kind <> ?", ((each, but) for each in keys))

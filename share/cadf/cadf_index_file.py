@@ -10,9 +10,9 @@ import sqlite3
 import stat
 import urllib.parse
 
-from cadf_index import MALFORMED, EventIndex, Untrusted, files_of
+from cadf_index import MALFORMED, EventIndex, Untrusted, files_of, read_window
 from cadf_site import INDEX
-from cadf_toolkit import NOT_ITS_FAULT, name_shown, open_descriptor, say
+from cadf_toolkit import NOT_ITS_FAULT, Fault, name_shown, open_descriptor, say
 
 NAME, JOURNAL = ".index", ".index-journal"
 MADE = "an index is made there, since none can be written beside the site"
@@ -111,6 +111,35 @@ def planned(folder, make):
     return made_by(folder, planned_by)
 
 
+def wrong_windows(folder, parts):
+    """Those of some windows of which the index beside an open folder has something else than their files, as far as these can be read.
+
+    What it has of them is made anew. Without an index none is wrong, and none is made.
+    """
+    def judged(index, mode):
+        wrong = []
+        for part in parts:
+            with contextlib.suppress(Fault):
+                window = read_window(folder, part)
+                if not index.has_read(part, window):
+                    wrong.append(part)
+                    if mode == "rw":
+                        with index.changing():
+                            index.put_some(folder, {part: window})
+        return wrong
+
+    return (made_by(folder, judged, [beside]) or []) if is_there(folder) else []
+
+
+def is_there(folder):
+    """Whether an index is beside the site."""
+    try:
+        os.stat(NAME, dir_fd=folder.descriptor, follow_symlinks=False)
+    except FileNotFoundError:
+        return False
+    return True
+
+
 # ---- What is kept of parts
 
 def kept(folder, kind, places=PLACES):
@@ -130,6 +159,12 @@ def keep(folder, kind, rows, places=PLACES):
     """Keeps such rows of the folder's parts, if there is an index that can be written."""
     if rows:
         made_by(folder, lambda index, _: index.keep(kind, rows, wanted_of(folder)), places)
+
+
+def forget(folder, keys, but=""):
+    """Forgets what the index beside an open folder keeps of parts, by what stands for their files, but for that kind."""
+    if keys and is_there(folder):
+        made_by(folder, lambda index, _: index.forget(keys, but), [beside])
 
 
 def wanted_of(folder):

@@ -115,6 +115,11 @@ def sealed(inputs):
     return int(found[1]), found[2]
 
 
+def text_of(count, root):
+    """A count and a root as the index keeps them."""
+    return "%d %s" % (count, root.decode())
+
+
 class Root(NamedTuple):
     """The root of a part: what stands for its files, count and root as a text, the bytes of the files, and when they were read whole."""
     files: bytes
@@ -146,7 +151,7 @@ def sealed_folder(name, damaged, jobs=1, is_full=False):
             for digest, file in files.items():
                 check_window(index, (part, digest), file)
             count, root = sealed(list(files.values())) if files else NOTHING
-            return Root(key, "%d %s" % (count, root.decode()), size_of(files), at)
+            return Root(key, text_of(count, root), size_of(files), at)
 
         roots = made_of_parts([folder], None, root_of, jobs)
         keep(folder, ROOTS, {each.files: each[1:] for each in roots.values() if each.files not in known or known[each.files] != list(each[1:])})

@@ -1,7 +1,9 @@
 """cadf-which --scrub: a share of a folder a night, what it finds, what it keeps, and its numbers."""
+import contextlib
 import functools
 import os
 import re
+import sqlite3
 import time
 
 import pytest
@@ -131,6 +133,44 @@ def test_files_that_go_meanwhile(scrubs):
     assert scrubs.scrub(2) == (0, "", []) and (scrubs.path / "once").is_dir()
 
 
+WRONG = {
+    "a body that lacks": "DELETE FROM bodies WHERE rowid = (SELECT min(rowid) FROM bodies)",
+    "a body of another time": "UPDATE bodies SET second = second + 1 WHERE rowid = 1",
+    "a body of another action": "UPDATE texts SET text = replace(text, 'read', 'reap')",
+    "a body that isn't there": "INSERT INTO bodies SELECT window, zeroblob(16), second, nanosecond, initiator, target, others FROM bodies WHERE rowid = 1",
+    "an open key that isn't told": "DELETE FROM several", "a place that lacks": "DELETE FROM places", "another place": "UPDATE places SET begin = begin + 1",
+    "other bytes": "UPDATE windows SET bytes = bytes + 1", "another root": "UPDATE kept SET value = '1 ' || substr(value, 3, 63) || 'x' WHERE kind = 'root 1'"}
+
+
+@pytest.mark.parametrize("wrong", WRONG)
+def test_a_wrong_index_is_told_and_made_anew(scrubs, wrong):
+    """Of the windows that are read: what it has of them then is what one has that is made anew."""
+    scrubs.north.takes({"id": "g", "events": [dict(EVENT, id="e", eventTime=DAYS[0] + "T01:00:00Z")]})
+    assert scrubs.run("conflicts", "north/")[0] == 5 and scrubs.run("seal", "north/")[0] == 0 and scrubs.scrub(1) == (0, "", [])
+    index = scrubs.north.folder / ".index"
+    with contextlib.closing(sqlite3.connect(index)) as connection:
+        before = contents(connection)
+        connection.execute(WRONG[wrong])
+        connection.commit()
+        assert contents(connection) != before
+    status, output, lines = scrubs.scrub(2)
+    assert (status, output) == (5, "") and all(re.match(r"north/\.index: it had something else of 2024-03-0\d than the window's files: it was made anew: ", line) for line in lines)
+    with contextlib.closing(sqlite3.connect(index)) as connection:
+        assert contents(connection) == before or wrong == "another root"
+    assert scrubs.scrub(3) == (0, "", []) and scrubs.run("seal", "north/")[0] == 0
+    index.unlink()
+    assert scrubs.scrub(4) == (0, "", []) and not index.exists()
+
+
+def contents(connection):
+    """What an index has, without its numbers."""
+    texts = "(SELECT text FROM texts WHERE id = %s)"
+    rows = "SELECT name, key, second, nanosecond, %s, %s, %s, bytes FROM bodies JOIN windows ON windows.id = window" % tuple(
+        texts % column for column in ("initiator", "target", "others"))
+    return [sorted(connection.execute(each)) for each in (rows, "SELECT key FROM several", "SELECT key, digest, begin, length, hash FROM places",
+                                                          "SELECT kind, files, value FROM kept WHERE kind = 'root 1'")]
+
+
 @pytest.mark.parametrize("words, said", [
     (["--scrub", "--share", "2/1", "north/"], "not a share, as 1/30"), (["--scrub", "--share", "0/1", "north/"], "not a share, as 1/30"),
     (["--share", "1/2", "north/"], "--share and --metrics go with --scrub"), (["--scrub", "north/", "south/"], "--scrub goes with one SITE, --share and --metrics"),
@@ -149,6 +189,10 @@ def test_a_file_is_no_folder(scrubs):
     (test_damage_is_named_each_night, "            if entry in self.damaged:\n                yield entry\n            elif left", "            if left"),
     (test_damage_is_named_each_night, "times.setdefault((DAMAGED, *entry), self.now)", "times[(DAMAGED, *entry)] = self.now"),
     (test_a_clock_that_was_ahead, "if at <= self.now), 0)", "), 0)"),
+    (functools.partial(test_a_wrong_index_is_told_and_made_anew, wrong="a body that isn't there"),
+     "collections.Counter(rows) == collections.Counter(", "set(map(tuple, rows)) >= set("),
+    (functools.partial(test_a_wrong_index_is_told_and_made_anew, wrong="an open key that isn't told"), " and set(counted) == set(several)", ""),
+    (functools.partial(test_a_wrong_index_is_told_and_made_anew, wrong="another root"), "                    bad.add(key)", "                    pass"),
 ])
 def test_a_wrong_version_is_caught(tmp_path, check, right, wrong):
     is_caught(tmp_path, (right, wrong), check, functools.partial(Scrubs, tmp_path))
