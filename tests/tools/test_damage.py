@@ -191,6 +191,22 @@ def test_settling_goes_on_beside_a_damaged_window(sites):
     assert path.read_bytes() == held and not (sites.north.folder / ".new").exists()
 
 
+@pytest.mark.parametrize("damage", [changed, cut, os.unlink, linked])
+@pytest.mark.parametrize("other", ["south/", "file.cadf"])
+def test_sites_are_compared_by_other_windows(sites, damage, other):
+    """A damaged one that is read is named, and the status isn't that of sites that agree or differ. Of one whose name both folders have only that is looked at."""
+    sites.file("file.cadf", contents(0, 2, 5))
+    sites.north.takes(contents(0, 2))
+    sites.south.takes(contents(0, 2, 5))
+    damage(file_of(sites.north, FIRST))
+    lacks = ["north/ lacks %d facts of %s" % (2 if other == "south/" else 4, other)]
+    for words in (["north/", other], [other, "north/"]):
+        status, output, lines = sites.run("agree", "--metrics", "m.prom", *words)
+        is_read = damage in (os.unlink, linked) or other != "south/"
+        assert (status, output, lines[:1]) == (1 if is_read else 5, "", lacks) and (sites.path / "m.prom").exists() != is_read, lines
+        assert left_out("agree", FIRST, lines[1:]) if is_read else lines == lacks, lines
+
+
 @pytest.mark.parametrize("words, is_known", [
     (["conflicts"], False), (["conflicts"], True), (["events"], False), (["events"], True), (["events", "--no-index"], False), (["report"], False),
     (["seal", "--jobs=3"], False), (["seal", "--jobs=3"], True)])
