@@ -14,7 +14,7 @@ from typing import NamedTuple
 
 from cadf_logs import utc
 from cadf_site import CHANGED, DAMAGED, SHARED, TRIES, UNITS, Folder, is_folder, made_of_parts, tell_damaged
-from cadf_toolkit import REFUSED, Fault, Input, cadf, in_order, most_files, opened, with_digest
+from cadf_toolkit import REFUSED, Fault, Input, cadf, in_order, most_files, opened, undigested, with_digest
 
 AT_ONCE = 256  # files that one call is given, where as many may be open
 LARGEST = 2 ** 28  # bytes of windows whose common keys are put together at once
@@ -27,11 +27,6 @@ RULED, RULED_KEY = b'\n[2,0,"E"]\n', b"\n[3,0,"  # in a file of rulings
 def spelled(identifier):
     """The JSON text of a key as files have it, in bytes."""
     return json.dumps(identifier, ensure_ascii=False).encode()
-
-
-def undigested(data):
-    """The lines of a replica file before its digest line."""
-    return data[:data.rfind(b"\nZ ") + 1]
 
 
 def contents(digest, each):

@@ -19,6 +19,8 @@ import cadf_site
 from cadf_index_file import planned
 from cadf_keys import Files, at_once
 from cadf_logs import atoms
+from cadf_rulings import standing
+from cadf_state import seen_rulings
 from cadf_toolkit import (DIFFERS, DONE, FAILED, MEMORY, REFUSED, Fault, cadf, name_shown, naming, new_file, opened, started,
                           temporary_folder, tool)
 
@@ -31,6 +33,7 @@ HELP = {
     "set_aside_bytes": "Bytes of these files and of the reasons beside them.",
     "set_aside_oldest_timestamp_seconds": "Since when the first of them waits.",
     "open_conflicts": "Open conflicts of the site.",
+    "unseen_rulings": "Ruled keys at which nobody here has looked since their rulings or values changed.",
     "largest_window_bytes": "Bytes of the site's largest window.",
     "oldest_scrub_timestamp_seconds": "When of all whole files the one was read that was not read for longest.",
     "damaged_windows": "Windows of which a file is damaged or gone.",
@@ -39,7 +42,7 @@ HELP = {
 }
 BEGINNING, TOTAL = b"# HELP cadf_", "_total"
 NUMBER = re.compile(r"(?m)^(cadf_\w+\{.*\}) (\d{1,18})$")
-COUNTED = re.compile(r"(?m): open (\d+), settled \d+(?:, unknown \d+)?$")  # what cadf-conflicts says at its end
+COUNTED = re.compile(r"(?m): open (\d+), settled \d+(?:, unknown \d+)?(?:, unseen (\d+))?$")  # what cadf-conflicts says at its end
 LARGEST_READ = 2 ** 20  # bytes of a file that is replaced
 
 
@@ -99,58 +102,69 @@ def largest_window(name):
 
 def of_site(name):
     """The numbers of a site."""
-    return [("open_conflicts", {}, open_conflicts(name)), ("largest_window_bytes", {}, largest_window(name))]
+    return [*conflicts(name), ("largest_window_bytes", {}, largest_window(name))]
 
 
-def open_conflicts(name):
-    """How many conflicts are open in a site. Of a folder those windows are read alone of which the index says that they may have some."""
+def conflicts(name):
+    """How many conflicts are open in a site; of a folder also how many ruled keys nobody here has looked at, as they are now.
+
+    Of a folder those windows are read alone of which the index says that they may have some.
+    """
     if not os.path.lexists(name):
-        return 0
+        return [("open_conflicts", {}, 0)]
     if not cadf_site.is_folder(name):
         with opened([name]) as inputs:
-            return shown_conflicts(inputs)
+            return [("open_conflicts", {}, shown_conflicts(inputs)[0])]
     with cadf_site.Folder(name, {}) as site, temporary_folder() as folder:
-        if site.index() is None:
-            return 0
-        parts = planned(site, lambda index, _: {cadf_site.SHARED}.union(*index.several().values()))
-        if parts is None:
-            return listed_conflicts(name)
-        if sum(len(site.site().digests(part)) for part in parts) <= at_once():
-            with cadf_site.opened_parts(site, parts) as (_, inputs):
-                return shown_conflicts(list(inputs.values()))
-        files = Files(folder)
-        made = cadf_site.made_of_parts([site], parts, lambda _, found: [files.join(list(found.values()))] if found else [])
-        with opened(files.joined([each for names in made.values() for each in names])) as inputs:
-            return shown_conflicts(inputs)
+        found = (0, set()) if site.index() is None else indexed_conflicts(site, folder)
+        count, unseen = listed_conflicts(name) if found is None else (found[0], len(found[1] - seen_rulings(site)))
+        return [("open_conflicts", {}, count), ("unseen_rulings", {}, unseen)]
+
+
+def indexed_conflicts(site, folder):
+    """How many keys are open in an open folder, and what stands for the ruled ones. None: there is no index."""
+    parts = planned(site, lambda index, _: {cadf_site.SHARED}.union(*index.several().values()))
+    if parts is None:
+        return None
+    if sum(len(site.site().digests(part)) for part in parts) <= at_once():
+        with cadf_site.opened_parts(site, parts) as (_, inputs):
+            return shown_conflicts(list(inputs.values()))
+    files = Files(folder)
+    made = cadf_site.made_of_parts([site], parts, lambda _, found: [files.join(list(found.values()))] if found else [])
+    with opened(files.joined([each for names in made.values() for each in names])) as inputs:
+        return shown_conflicts(inputs)
 
 
 def shown_conflicts(inputs):
-    """How many open keys the union of some inputs has. Of their values no text is made that `show` would write again and again."""
-    if not inputs:
-        return 0
-    with tempfile.TemporaryFile() as file:
-        cadf(["join"], inputs, file.fileno())
-        file.seek(0)
-        several, ruled = {}, collections.defaultdict(set)
-        for key, group in itertools.groupby(atoms(file), lambda atom: atom[:2]):
-            if key[0] == "U":
-                for _, letter, name, digest in group:
-                    ruled[letter, name].add(digest)
-            else:
-                digests = {hashlib.sha256(atom[2].encode()).hexdigest() for atom in group if len(atom) == 3}
-                if len(digests) > 1:
-                    several[key] = digests
-    return sum(len(digests & ruled[key]) != 1 for key, digests in several.items())
+    """How many open keys the union of some inputs has, and what stands for the ruled ones.
+
+    Of their values no text is made that `show` would write again and again.
+    """
+    several, ruled = {}, collections.defaultdict(set)
+    if inputs:
+        with tempfile.TemporaryFile() as file:
+            cadf(["join"], inputs, file.fileno())
+            file.seek(0)
+            for key, group in itertools.groupby(atoms(file), lambda atom: atom[:2]):
+                if key[0] == "U":
+                    for _, letter, name, digest in group:
+                        ruled[letter, name].add(digest)
+                else:
+                    digests = {hashlib.sha256(atom[2].encode()).hexdigest() for atom in group if len(atom) == 3}
+                    if len(digests) > 1:
+                        several[key] = digests
+    return (sum(len(digests & ruled[key]) != 1 for key, digests in several.items()),
+            {standing(key, ruled[key], digests) for key, digests in several.items() if ruled[key]})
 
 
 def listed_conflicts(name):
-    """How many open keys the tool beside this one lists, which holds one window of a folder at a time."""
+    """How many open keys, and unseen ones, the tool beside this one lists, which holds one window of a folder at a time."""
     beside = os.path.join(os.path.dirname(os.path.realpath(sys.argv[0])), "cadf-conflicts")
     with started([sys.executable, beside, "--", name], stdin=subprocess.DEVNULL, stdout=subprocess.DEVNULL, stderr=subprocess.PIPE) as child:
         said = child.communicate()[1].decode("utf-8", "backslashreplace").strip()
     if child.returncode == DONE and not said:
-        return 0  # it says nothing of a site without conflicts
+        return 0, 0  # it says nothing of a site without conflicts
     counted = COUNTED.search(said)
     if child.returncode not in (DONE, DIFFERS, REFUSED) or not counted:  # refused also if a window is damaged
         raise Fault("%s: cadf-conflicts: %s" % (name_shown(name), said), child.returncode if child.returncode in (REFUSED, MEMORY) else FAILED)
-    return int(counted[1])
+    return int(counted[1]), int(counted[2] or 0)

@@ -12,6 +12,9 @@ import cadf_index
 from cadf_index import KEY_BYTES, check_read, key_of, lines_at
 from cadf_index_file import planned
 from cadf_keys import NODES, RULINGS, Windows, at_once, contents, keys_in, rulings_in, spelled
+from cadf_logs import Range
+from cadf_question import Pattern, Question
+from cadf_rulings import ACTION
 from cadf_site import CHANGED, SHARED, TRIES, opened_parts
 from cadf_toolkit import Fault, grouped, most_files, opened
 
@@ -157,7 +160,7 @@ def plan_of(folder, *words):
 
 
 class Picked(Windows):
-    """What a site has of those keys of events that have several bodies or are wanted, and all that is of no event, as `names` of replica files."""
+    """What a site has of those keys of events that have several bodies or are wanted, of records of rulings, and of no event, as `names` of replica files."""
 
     def __init__(self, wanted, working, index, site):
         super(Windows, self).__init__(working)
@@ -166,6 +169,10 @@ class Picked(Windows):
         for key in wanted - several:
             for part in index.windows_with(key):
                 self.keys.setdefault(part, set()).add(key)
+        index.ask(Question(Range(None, None), {"action": [Pattern(ACTION)]}))
+        for part in site.parts():
+            self.keys.setdefault(part, set()).update(keys_of(index.keys(part)) - several)
+        self.keys = {part: keys for part, keys in self.keys.items() if keys}
 
     def take(self, folder):
         """Takes what it needs of the folder's files, of one part after another. Returns whether they are those that the index names, and could be read."""

@@ -12,6 +12,7 @@ from cadf_toolkit import say, with_digest
 
 NAME, WORKING, FIRST = ".state", ".state.new", b"CADF-STATE 1\n"
 SEEN, DAMAGED = "S", "D"  # when a file was last seen whole; since when one is damaged or gone
+RULED = re.compile(r"R ([0-9a-f]{64})\n")  # the rulings and values of a key that a person has looked at
 LINE = re.compile(r"[A-Z] [^\n]*\n")
 OF_FILE = re.compile(r"([SD]) (%s) ([0-9a-f]{64}) ([0-9]{1,12})\n" % PART)
 DOUBT = ("%s: facts of %s that this site alone had may be gone since %s: another peer may have them: cadf-sync --repair SITE/ HOST:SITE; "
@@ -48,6 +49,16 @@ def changing(folder):
     yield found
     others = [line for line in lines if not OF_FILE.fullmatch(line)]
     write(folder, others + ["%s %s %s %d\n" % (*key, at) for key, at in found.items()])
+
+
+def seen_rulings(folder):
+    """What stands for the ruled keys that somebody here has looked at, as they were then."""
+    return {found[1] for found in map(RULED.fullmatch, lines_of(folder)) if found}
+
+
+def put_seen(folder, standings):
+    """Notes that somebody has looked at these, and no others. The folder is locked."""
+    write(folder, [line for line in lines_of(folder) if not RULED.fullmatch(line)] + ["R %s\n" % each for each in standings])
 
 
 def is_in_doubt(folder, entry):

@@ -428,6 +428,11 @@ def with_digest(lines):
     return lines + b"Z %s\n" % hashlib.sha256(lines).hexdigest().encode()
 
 
+def undigested(data):
+    """The lines of a replica file before its digest line."""
+    return data[:data.rfind(b"\nZ ") + 1]
+
+
 def last_digest(file):
     """The digits of the last line of an open replica file, or None if it is none."""
     size = os.fstat(file.fileno()).st_size

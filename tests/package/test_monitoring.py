@@ -18,7 +18,7 @@ RULES = os.path.join(FOLDER, "cadf.rules.yml")
 HOURS = 45 * 24
 FOLLOWS, STAYS = "0+3600x%d" % HOURS, "0x%d" % HOURS  # times, which begin with 1970 in a test of rules
 HEALTHY = {**{'last_success_timestamp_seconds{tool="%s"}' % tool: FOLLOWS for tool in ("cadf-spool", "cadf-sync", "cadf-which")},
-           "oldest_scrub_timestamp_seconds": FOLLOWS, "damaged_windows": STAYS, "doubtful_windows": STAYS, "open_conflicts": STAYS,
+           "oldest_scrub_timestamp_seconds": FOLLOWS, "damaged_windows": STAYS, "doubtful_windows": STAYS, "open_conflicts": STAYS, "unseen_rulings": STAYS,
            "set_aside_bytes": STAYS, "largest_window_bytes": "1000x%d" % HOURS}
 # Of each alert what is then otherwise than in a healthy site; None is what isn't there.
 CASES = {
@@ -30,6 +30,7 @@ CASES = {
     "CadfWindowInDoubt": {"doubtful_windows": "1x%d" % HOURS},
     "CadfScrubLate": {"oldest_scrub_timestamp_seconds": STAYS},
     "CadfOpenConflicts": {"open_conflicts": "3x%d" % HOURS},
+    "CadfUnseenRuling": {"unseen_rulings": "1x%d" % HOURS},
     "CadfWaiting": {"set_aside_oldest_timestamp_seconds": STAYS},
     "CadfLargeWindow": {"largest_window_bytes": "600000000x%d" % HOURS},
 }

@@ -102,7 +102,7 @@ def test_long_lines_of_choices(cadf, tmp_path):
         path = tmp_path / "choices"
         path.write_bytes(choices)
         os.truncate(path, max(len(choices), most))
-        return subprocess.run([tool("cadf-conflicts"), "--rule", path, open_site], env={**os.environ, "CADF": cadf}, stdout=subprocess.PIPE,
+        return subprocess.run([tool("cadf-conflicts"), "--rule", path, "--as", "ann", "--at", "2024-03-01", open_site], env={**os.environ, "CADF": cadf}, stdout=subprocess.PIPE,
                               stderr=subprocess.PIPE, preexec_fn=lambda: resource.setrlimit(resource.RLIMIT_AS, (2 ** 28, 2 ** 28)))
 
     open_site, most = os.path.join(VECTORS, "both.cadf"), 0

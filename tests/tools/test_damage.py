@@ -107,7 +107,7 @@ def states(output):
 def test_what_a_damaged_window_may_settle_or_open_is_unknown(sites):
     bodies(sites)
     status, output, lines = sites.run("conflicts", "north/")
-    assert (status, lines) == (5, ["cadf-conflicts: open 1, settled 2"]) and states(output) == {"s": "settled", "u": "settled", "w": "open"}
+    assert (status, lines) == (5, ["cadf-conflicts: open 1, settled 2, unseen 3"]) and states(output) == {"s": "settled", "u": "settled", "w": "open"}
     changed(file_of(sites.north, FIRST))
     status, output, lines = sites.run("conflicts", "north/")
     assert status == 1 and left_out("conflicts", FIRST, lines[:1]) and lines[1:] == ["cadf-conflicts: open 0, settled 1, unknown 2"]
@@ -124,7 +124,7 @@ def test_without_its_rulings_no_key_is_settled_or_open(sites):
     assert status == 1 and left_out("conflicts", "shared", lines[:1]) and lines[1:] == ["cadf-conflicts: open 0, settled 0, unknown 3"]
     assert set(states(output).values()) == {"unknown"}
     (sites.path / "choices").write_text(chosen[0])
-    status, output, lines = sites.run("conflicts", "--rule", "choices", "north/")
+    status, output, lines = sites.run("conflicts", "--rule", "choices", "--as", "ann", "north/")
     assert (status, output) == (1, "") and left_out("conflicts", "shared", lines)
 
 
@@ -134,7 +134,7 @@ def test_rulings_beside_a_damaged_window(sites):
     status, output, lines = sites.run("conflicts", "north/")
     assert status == 1 and lines[1:] == ["cadf-conflicts: open 1, settled 0"]
     (sites.path / "choices").write_text(next(line for line in output.splitlines(True) if line[0] == "E"))
-    status, output, lines = sites.run("conflicts", "--rule", "choices", "north/")
+    status, output, lines = sites.run("conflicts", "--rule", "choices", "--as", "ann", "north/")
     assert status == 5 and output.startswith("CADF-REPLICA 2\n") and left_out("conflicts", FIRST, lines)
 
 

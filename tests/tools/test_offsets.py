@@ -1,5 +1,6 @@
 """Conflicts of which the values are one event but for the offset of its time: cadf-conflicts tells them apart, and rules for UTC."""
 import functools
+import json
 
 import pytest
 
@@ -57,19 +58,26 @@ def test_all_are_ruled_for_utc(sites):
     rulings = sites.run("conflicts", "--rule", "choices", "north/")[1]
     (sites.path / "rulings.cadf").write_text(rulings)
     assert sites.north.take(files=[str(sites.path / "rulings.cadf")]).status == 0
-    status, output, lines = sites.run("conflicts", "--rule-utc", "north/")
+    status, output, lines = sites.run("conflicts", "--rule-utc", "--as", "ann", "north/")
     assert (status, lines) == (0, ["cadf-conflicts: ruled for UTC on 2 keys"])
     (sites.path / "utc.cadf").write_text(output)
     wanted = {("U", "E", key, digest_of_value(value_of(key, KEYS[key][0]))) for key in "ab"}
     before = sites.north.atoms()
-    assert sites.north.take(files=[str(sites.path / "utc.cadf")]).status == 0 and sites.north.atoms() - before == wanted
-    assert sites.run("conflicts", "--rule-utc", "north/")[2] == ["cadf-conflicts: ruled for UTC on 0 keys"]
+    assert sites.north.take(files=[str(sites.path / "utc.cadf")]).status == 0
+    new = sites.north.atoms() - before
+    records = [json.loads(atom[2]) for atom in new if atom[0] == "E"]
+    assert new - wanted == {atom for atom in new if atom[1].startswith("cadf-ruling:")}
+    assert sorted((record["target"]["id"], record["initiator"]["id"], record["reason"]["reasonCode"]) for record in records) == [
+        (key, "ann", "the spelling in UTC") for key in "ab"]
+    assert sites.run("conflicts", "--rule-utc", "--as", "ann", "north/")[2] == ["cadf-conflicts: ruled for UTC on 0 keys"]
 
 
-@pytest.mark.parametrize("words", [["--rule-utc", "--values", "north/"], ["--rule-utc", "--rule", "choices", "north/"], ["--rule-utc", "--again", "north/"]])
-def test_words(sites, words):
-    status, output, lines = sites.run("conflicts", *words)
-    assert (status, output) == (2, "") and lines[-1].endswith("--rule goes with one SITE, and with --again alone; --rule-utc with one SITE")
+@pytest.mark.parametrize("words, said", [
+    (["--values"], "--rule and --rule-utc go with one SITE, and with options of who rules"),
+    (["--rule", "choices"], "--again goes with --rule, which does not go with --rule-utc"), (["--again"], "--again goes with --rule, which does not go with --rule-utc")])
+def test_words(sites, words, said):
+    status, output, lines = sites.run("conflicts", "--rule-utc", *words, "north/")
+    assert (status, output) == (2, "") and lines[-1].endswith(said)
 
 
 @pytest.mark.parametrize("check, right, wrong", [

@@ -7,6 +7,7 @@ import pytest
 from tests.reference.events import EVENT_URI
 from tests.tools.conftest import Tried
 from tests.tools.odd_logs import EVENT
+from tests.tools.test_sites import bare
 
 pytestmark = [pytest.mark.browser, pytest.mark.xdist_group("browser"), pytest.mark.timeout(600)]
 
@@ -152,7 +153,7 @@ def test_many_rulings(place, driver):
     joined = place.file("bodies", place.run("cadf", "join", place.file("bodies.json", {"id": "g", "events": [dict(EVENT, id=key, name=name) for key in keys for name in "ab"]})))
     listed = place.run("bash", "-c", "cadf-conflicts bodies || [ $? = 5 ]").decode().splitlines(keepends=True)
     place.file("every", "".join(line for line in listed if re.match('E "[^"]*" 1 ', line)).encode())
-    ruled = place.file("every.cadf", place.run("cadf-conflicts", "--rule", "every", "bodies"))
+    ruled = place.file("every.cadf", bare(place.run("cadf-conflicts", "--rule", "every", "bodies")))
     tried = Tried(driver, place.page("rulings", joined, ruled)).ready()
     tried.show("conflicts")
     rows = "return [...document.querySelectorAll('#panel-conflicts table.pairs tbody td.party')].map(each => each.innerText)"

@@ -14,6 +14,7 @@ import pytest
 
 from tests.tools.conftest import Tried
 from tests.tools.odd_logs import ALERT, EVENT, attempts, heavy, hostile, hostile_event, plain, told_otherwise
+from tests.tools.test_sites import bare
 
 pytestmark = [pytest.mark.browser, pytest.mark.xdist_group("browser"), pytest.mark.timeout(600)]
 
@@ -49,7 +50,7 @@ def rulings(place, both):
     listed = place.run("bash", "-c", "cadf-conflicts both || [ $? = 5 ]").decode().splitlines(keepends=True)
     chosen = [line for line in listed if re.match(r'E "(?:c00" 2|(?!c00)[^"]*" 1) ', line)]
     place.file("chosen", "".join(chosen).encode())
-    return place.file("rulings", place.run("cadf-conflicts", "--rule", "chosen", "both"))
+    return place.file("rulings", bare(place.run("cadf-conflicts", "--rule", "chosen", "both")))
 
 
 @pytest.fixture(scope="module")
@@ -318,7 +319,7 @@ def test_choices(place, driver, both, rulings):
         if os.path.exists(place.path("choices.txt")):
             break
         time.sleep(0.05)
-    made = place.run("cadf-conflicts", "--rule", "choices.txt", "both")
+    made = bare(place.run("cadf-conflicts", "--rule", "choices.txt", "both"))
     with open(rulings, "rb") as file:
         assert made == file.read()
     tried.is_quiet()

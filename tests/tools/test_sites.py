@@ -11,7 +11,7 @@ import pytest
 from tests import TOP
 from tests.formats import in_format
 from tests.machine import ended
-from tests.reference.replica_files import file_of
+from tests.reference.replica_files import file_of, read_file
 from tests.tools.copies import copied
 from tests.tools.odd_logs import EVENT
 
@@ -33,6 +33,12 @@ def put(name, data):
 def held(name):
     with open(name, "rb") as file:
         return file.read()
+
+
+def bare(rulings):
+    """A file of rulings without their records."""
+    log, atoms = read_file(rulings)
+    return file_of(log, {atom for atom in atoms if not atom[1].startswith("cadf-ruling:")})
 
 
 def document(events=(), log="g", **members):
@@ -79,10 +85,10 @@ class Sites:
         return [line for line in lines if not line.startswith("#") and place in (None, int(line.split()[-2]))]
 
     def rules(self, site, *options, status=0, said=()):
-        """What `--rule choices` of a site writes."""
-        got, output, lines = self.tool("conflicts", "--rule", "choices", *options, site)
+        """What `--rule choices` of a site writes, without the records of the rulings."""
+        got, output, lines = self.tool("conflicts", "--rule", "choices", "--as", "ann", *options, site)
         assert (got, lines) == (status, list(said))
-        return output
+        return output and bare(output)
 
     def missing(self, *words):
         self.cadf("missing", "missing", *words)
@@ -200,7 +206,7 @@ def test_many_rulings(sites, place):
         sites.cadf("ruled.new", "rule", "--", line[0], key, str(place), "ruled")
         os.rename("ruled.new", "ruled")
     assert output == sites.missing("ruled", "site") == sites.rules("site.1")
-    assert sites.tool("conflicts", "--rule", "-", "site", input=held("choices"))[1] == output
+    assert bare(sites.tool("conflicts", "--rule", "-", "site", input=held("choices"))[1]) == output
     status, listed, said = sites.tool("conflicts", "ruled")
     assert (status, said, listed.decode().count("  ruled\n")) == (0, ["cadf-conflicts: open 0, settled 11"], 11)
     assert sites.choices("ruled") == [] and sites.rules("ruled") == sites.missing("site", "site")
@@ -224,13 +230,13 @@ def test_refused_ruling(sites, change):
     """It is named by its line, and nothing is written."""
     first, *_, good, _ = sites.choices("site")
     put("choices", good + "# x\n" + change(first))
-    status, output, said = sites.tool("conflicts", "--rule", "choices", "site")
+    status, output, said = sites.tool("conflicts", "--rule", "choices", "--as", "ann", "site")
     assert (status, output, len(said)) == (1, b"", 1) and said[0].startswith("cadf-conflicts: choices: line 3: ")
 
 
 def test_refused_rulings_are_all_named(sites):
     put("choices", b"\xff\n" + "".join(sites.choices("site")[:2]).encode() + b"x\n")
-    status, output, said = sites.tool("conflicts", "--rule", "choices", "site")
+    status, output, said = sites.tool("conflicts", "--rule", "choices", "--as", "ann", "site")
     assert (status, output, [line.split(": ")[2] for line in said]) == (1, b"", ["line 1", "line 3", "line 4"])
 
 
@@ -263,7 +269,7 @@ def test_ruling_of_a_value_that_is_elsewhere(sites):
     pytest.param(["event.json"], 1, "event.json: no log named", id="no log"),
     pytest.param(["site", "a.json", "cut.json"], 1, "cut.json: not JSON", id="a refused file"),
     pytest.param(["site", "other.json"], 1, "other.json: other log", id="of another log"),
-    pytest.param(["--rule", "absent", "site"], 3, "absent: No such file or directory", id="no choices")])
+    pytest.param(["--rule", "absent", "--as", "ann", "site"], 3, "absent: No such file or directory", id="no choices")])
 def test_refused_by_conflicts(sites, words, status, said):
     assert sites.tool("conflicts", *words) == (status, b"", ["cadf-conflicts: " + said])
 
@@ -302,7 +308,7 @@ def test_log_that_begins_with_a_dash(sites):
     sites.cadf("dash", "join", "dash-1", "dash-2")
     status, output, _ = sites.tool("conflicts", "dash", "dash-1")
     assert status == 5 and "#   in dash-1\n" in output.decode()
-    sites.tools = copied("copy", '"--log=" + json.loads(self.log_line[2:])', '"--log", json.loads(self.log_line[2:])')
+    sites.tools = copied("copy", 'EVENT], ["--log=" + self.log]', 'EVENT], ["--log", self.log]')
     assert sites.tool("conflicts", "dash", "dash-1")[0] == 2
 
 

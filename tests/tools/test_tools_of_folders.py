@@ -245,7 +245,7 @@ def test_a_report_of_more_windows_than_files_may_be_open(sites):
 MEASURED = """import sys
 sys.path.insert(0, sys.argv[1])
 import cadf_metrics
-print(cadf_metrics.largest_window(sys.argv[2]), cadf_metrics.open_conflicts(sys.argv[2]))
+print(cadf_metrics.largest_window(sys.argv[2]), cadf_metrics.conflicts(sys.argv[2])[0][2])
 """
 
 
@@ -322,14 +322,14 @@ def test_conflicts_of_a_folder_are_those_of_its_file(sites, seed, unit):
     folder_of(sites.path / "site", atoms, unit, chance)
     (sites.path / "file").write_bytes(file_of(LOG, atoms))
     listed = sites.run("conflicts", "--values", "file")
-    assert listed[0] == 5 and sites.run("conflicts", "--values", "site") == listed
+    assert listed[0] == 5 and sites.run("conflicts", "--values", "--seen", "site") == listed
     held = sites.run("conflicts", "file", "file")
     assert held == tuple(each.replace("in site", "in file") if type(each) is str else each for each in sites.run("conflicts", "site/", "site"))
     lines = ["%s %s %d %s\n" % (letter, json.dumps(name), place, digest_of_value(value)) for (letter, name), values in values_by_key(atoms).items()
              for place, value in enumerate(sorted(values, key=str.encode), 1)]
     for choices in (lines, *([line] for line in lines[::3])):
         (sites.path / "choices").write_text("".join(choices))
-        rule = ["conflicts", "--rule", "choices", *["--again"] * (len(choices) > 1)]
+        rule = ["conflicts", "--rule", "choices", "--as", "ann", "--at", "2024-03-01", *["--again"] * (len(choices) > 1)]
         assert sites.run(*rule, "site") == sites.run(*rule, "file")
     alone, = (each for each in (sites.path / "site").iterdir() if b'"alone"' in each.read_bytes() and each.name.endswith(".cadf"))
     alone.write_bytes(alone.read_bytes().replace(b'"alone"', b'"alien"'))
