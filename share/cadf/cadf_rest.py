@@ -1,4 +1,4 @@
-"""What a take into a folder leaves: events of windows beyond its limits and out of its bounds of time, which go to a file of each sender.
+"""What a take into a folder leaves: events of windows beyond its limits and out of its bounds of time, and rulings, which go to a file of each sender.
 
 The windows that are there are taken, and of new ones those that are nearest to now, of the senders in turn.
 """
@@ -6,23 +6,35 @@ import contextlib
 import os
 import re
 import subprocess
+import tempfile
 
 import cadf_site
 from cadf_link import Store
+from cadf_rulings import file_of_atoms
 from cadf_times import chosen
 from cadf_toolkit import LARGEST, REFUSED, USAGE, Fault, another_program, cadf, grouped, name_shown, naming_temporary, new_file, opened, say, sync
+from cadf_welcome import rulings_in, without
 
 AT_ONCE = 200  # files that are joined at once
 COUNTED = re.compile(rb" atoms (\d+) conflicts \d+\n$")  # what cadf says of a file that it checks
 WHAT_NEXT = ": look at their "
+WHY = "%d new windows beyond the limits", "%d windows out of bounds", "%d rulings that aren't welcome"
 THERE = "it is there: name another file by --rest, or move it away"
 
 
 class Parts:
-    """Parts of split files, by their names, in a private file."""
+    """Parts of split files, by their names, in a private file, and how many rulings are among them."""
 
     def __init__(self):
-        self.store, self.items = Store(), {}
+        self.store, self.items, self.rulings = Store(), {}, 0
+
+    def put_rulings(self, log, rulings):
+        """Writes these rulings, if there are some."""
+        if rulings:
+            self.rulings += len(rulings)
+            with naming_temporary():
+                data = file_of_atoms(b"L %s\n" % log.encode(), rulings)
+                self.items.setdefault(cadf_site.SHARED, []).append(self.store.put(cadf_site.SHARED, "facts", data))
 
     def put(self, part, parts):
         """Copies the next part of a split file."""
@@ -37,12 +49,18 @@ class Rest:
     `each` says how many windows each sender may begin, and `begun` afterwards of how many of those that were begun each has events.
     """
 
-    def __init__(self, name, most, each, bounds, senders):
-        self.most, self.each, self.bounds, self.senders = most, each, bounds, senders
+    def __init__(self, name, most, each, bounds, senders, welcome=None):
+        self.most, self.each, self.bounds, self.senders, self.welcome, self.rulings = most, each, bounds, senders, welcome, set()
         self.names = [name] if len(senders) == 1 else ["%s.%d" % (name, number) for number in range(1, len(senders) + 1)]
         self.apart, self.left, self.begun = Parts(), [], []
         for file in filter(os.path.lexists, self.names):
             raise Fault("%s: %s" % (name_shown(file), THERE), USAGE)
+
+    def without_unwelcome(self, file, *words):
+        """What an open file has but for new rulings that aren't welcome, which are kept apart, in pieces; None if it has no such."""
+        unwelcome = self.welcome.new(file, *words)
+        self.rulings |= unwelcome
+        return without(file, unwelcome) if unwelcome else None
 
     def is_apart(self, part, is_there):
         return part != cadf_site.SHARED and not (is_there and self.bounds.has(part))
@@ -58,7 +76,9 @@ class Rest:
     def finished(self, taking, inputs):
         """Takes the windows that are chosen, and has the rest on the disk before the site names them. A take that fails leaves no rest."""
         new = [part for part in self.apart.items if self.bounds.has(part)]
-        senders = [self.apart] if len(self.senders) == 1 else list(self.parts_of_senders(taking, inputs)) if self.apart.items else []
+        if len(self.senders) == 1:
+            self.apart.put_rulings(taking.index.log, self.rulings)
+        senders = [self.apart] if len(self.senders) == 1 else list(self.parts_of_senders(taking, inputs)) if self.apart.items or self.rulings else []
         taken = chosen([[part for part in new if part in each.items] for each in senders], self.most, self.each)
         self.begun = [len(taken.intersection(each.items)) for each in senders] or [0] * len(self.senders)
         for part in sorted(taken):
@@ -68,9 +88,9 @@ class Rest:
                 taking.keep(part, digest_of(item))
         left = [{part: items for part, items in each.items.items() if part not in taken} for each in senders]
         try:
-            for name, parts in zip(self.names, left):
+            for name, parts, own in zip(self.names, left, senders):
                 if parts:
-                    self.write(name, parts, inputs)
+                    self.write(name, parts, inputs, own.rulings)
             yield
         except BaseException:
             for name in self.names:
@@ -90,11 +110,16 @@ class Rest:
                     for part in parts.names():
                         if part in self.apart.items:
                             found.put(part, parts)
+                        elif part == cadf_site.SHARED and self.rulings:
+                            with tempfile.TemporaryFile() as file:
+                                parts.copy(file)
+                                file.flush()
+                                found.put_rulings(taking.index.log, rulings_in(file) & self.rulings)
                         else:
                             parts.copy(nothing)
             yield found
 
-    def write(self, name, parts, inputs):
+    def write(self, name, parts, inputs, rulings):
         """Writes what is left of a sender, and notes how much it is."""
         with new_file(name + ".new", inputs) as file:
             join([item for items in parts.values() for item in items], file, name)
@@ -106,14 +131,17 @@ class Rest:
             counted = COUNTED.search(cadf(["check"], found, subprocess.PIPE))
         if not counted:
             raise another_program("answer of `cadf check`")
-        self.left.append((name, int(counted[1]), sum(map(self.bounds.has, parts)), len(parts)))
+        windows = parts.keys() - {cadf_site.SHARED}
+        new = sum(map(self.bounds.has, windows))
+        self.left.append((name, int(counted[1]), new, len(windows) - new, rulings))
         sync(os.path.dirname(os.path.abspath(name)))
 
     def tell(self):
         """Says what is left, a line a file. Returns whether there is some."""
-        for name, facts, new, windows in self.left:
-            why = [words for count, words in ((new, "%d new windows beyond the limits" % new), (windows - new, "%d windows out of bounds" % (windows - new))) if count]
-            say("%s: %d facts wait, of %s%stimes; `cadf-take --windows all SITE FILE` takes them" % (name_shown(name), facts, " and ".join(why), WHAT_NEXT))
+        for name, facts, *counts in self.left:
+            why = [words % count for count, words in zip(counts, WHY) if count]
+            what = "times" if any(counts[:2]) else "keys"
+            say("%s: %d facts wait, of %s%s%s; `cadf-take --windows all SITE FILE` takes them" % (name_shown(name), facts, " and ".join(why), WHAT_NEXT, what))
         return bool(self.left)
 
 

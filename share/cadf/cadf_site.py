@@ -445,9 +445,19 @@ def check_labels(unit, log, labels, inputs):
             raise Fault("%s: it has facts of %s%s" % (names, ", ".join(sorted(others)[:MOST_NAMED]), ": " + advice if advice else ""), REFUSED)
 
 
+def empty_file(log):
+    """The bytes of a replica file of the log, by its canonical text, that has no facts."""
+    return with_digest(("CADF-REPLICA 2\nL %s\n" % log).encode())
+
+
 def without_facts(log, name):
-    """A replica file of the log, by its canonical text, that has no facts, as an input of that name."""
-    return as_input(with_digest(("CADF-REPLICA 2\nL %s\n" % log).encode()), name)
+    """Such a file as an input of that name."""
+    return as_input(empty_file(log), name)
+
+
+def nothing_of(log):
+    """The digits of its last line."""
+    return empty_file(log)[-65:-1].decode()
 
 
 # ---- Taking
@@ -698,11 +708,28 @@ class Taking:
                 if part == SHARED or not limits.keeps(part, parts, bool(self.digests(part))):
                     with self.new_file() as output:
                         digest = parts.copy(output)
+                    if part == SHARED and limits.welcome:
+                        digest = self.without_unwelcome(limits, inputs, digest)
                     self.keep(part, digest)
+
+    def without_unwelcome(self, limits, inputs, digest):
+        """Takes new rulings that aren't welcome out of the new file, and has the limits keep them. Returns its digest."""
+        with self.folder.input(WORKING).file as new, self.files(SHARED, self.digests(SHARED)) as own:
+            pieces = limits.without_unwelcome(new, [each.file for each in own], self.index.name(), inputs, self.folder.name)
+            if pieces is None:
+                return digest
+            self.is_removed(WORKING)
+            with self.new_file() as output:
+                output.writelines(pieces)
+        with self.folder.input(WORKING).file as new:
+            return last_digest(new)
 
     def keep(self, part, digest):
         """Keeps the new file as one of a part's, unless these hold it already. Each of them has to be there."""
         size = self.size(WORKING)
+        if digest == nothing_of(self.index.log):
+            os.unlink(WORKING, dir_fd=self.folder.descriptor)  # what there was of rulings wasn't welcome
+            return
         if size > LARGEST:
             raise Fault("%s: the files bring more than 2^30 bytes of %s at once: give fewer" % (self.folder.shown(), part), REFUSED)
         sizes = self.sizes(part)
@@ -836,10 +863,16 @@ def taking(name, unit, log, wait, damaged=None):
 
 
 class Limits:
-    """The limits of a take that is of all or nothing: how many windows it may begin, and of which times they are."""
+    """The limits of a take that is of all or nothing: how many windows it may begin, of which times they are, and which rulings are welcome, if not all."""
 
-    def __init__(self, most=MOST_NEW, bounds=Bounds()):
-        self.most, self.bounds, self.begun = most, bounds, set()
+    def __init__(self, most=MOST_NEW, bounds=Bounds(), welcome=None):
+        self.most, self.bounds, self.welcome, self.begun = most, bounds, welcome, set()
+
+    def without_unwelcome(self, *words):
+        """Raises that there are new rulings that aren't welcome."""
+        unwelcome = self.welcome.new(*words)
+        if unwelcome:
+            raise self.welcome.fault(unwelcome)
 
     def keeps(self, part, _, is_there):
         """Raises why nothing is taken, as the next part shows. Keeps none apart."""

@@ -314,8 +314,9 @@ def test_names_on_a_terminal(place):
     (functools.partial(test_senders_take_turns, most="2", each="2"), [
         "itertools.zip_longest(*(nearest(windows, at)[:own] for windows, own in zip(wanted, each)))", "[nearest(windows, at)[:own] for windows, own in zip(wanted, each)]"]),
     (functools.partial(test_senders_take_turns, most="3", each="1"), ["nearest(windows, at)[:own]", "nearest(windows, at)"]),
-    (test_the_rest_is_there_before_the_site, ["            for name, parts in zip(self.names, left):\n                if parts:\n                    self.write(name, parts, inputs)\n            yield\n",
-                                              "            yield\n            for name, parts in zip(self.names, left):\n                if parts:\n                    self.write(name, parts, inputs)\n"]),
+    (test_the_rest_is_there_before_the_site, ["zip(self.names, left, senders):\n                if parts:\n                    self.write(name, parts, inputs, own.rulings)\n            yield\n",
+                                              "[]:\n                pass\n            yield\n            for name, parts, own in zip(self.names, left, senders):\n"
+                                              "                if parts:\n                    self.write(name, parts, inputs, own.rulings)\n"]),
     (test_401_hostile_messages_keep_no_honest_one_out, ["if counts and (by or", "if False and (by or"]),
     (test_a_sender_takes_no_name_of_what_waits, ["or name.startswith(WAITS):", ":"]),
     (test_what_waits_waits_once, ["return done.status == DONE\n\n    def empty", "return True\n\n    def empty"]),
