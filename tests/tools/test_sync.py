@@ -1810,3 +1810,18 @@ def test_ssh(ssh):
     answer = ssh.asks("-o", "ExitOnForwardFailure=yes", "-N", "-R", "127.0.0.1:%d:127.0.0.1:%d" % (free_port(), ssh.port), "127.0.0.1")
     assert answer.status not in (0, None) and b"remote port forwarding failed" in answer.error, answer
     assert sorted((each.name, each.read_bytes()) for each in ssh.path.iterdir()) == before
+
+
+@pytest.mark.needs("ssh", "ssh-keygen", "/usr/sbin/sshd")
+def test_ssh_that_compresses(ssh):
+    """Few bytes go over the line; the numbers that are printed and the limits are of what was unpacked."""
+    event = {"id": "large", "eventType": "activity", "eventTime": "2024-03-01T00:00:00Z", "action": "read", "outcome": "success", "initiatorId": "i",
+             "targetId": "t", "observerId": "o", "more": "x" * 2 ** 22}
+    ssh.put("there.cadf", document({"id": "g", "events": [event]})[1])
+    ssh.put("here.cadf", facts(1))
+    words = ["--rsh=" + shlex.join([*ssh.ssh("all"), "-C", "-v"]), "here.cadf", "127.0.0.1:%s" % (ssh.path / "there.cadf")]
+    answer = ssh.sync("--most=%d" % 2 ** 21, *words)
+    assert answer.status == 1 and ssh.holds("here.cadf") == facts(1), answer
+    answer = ssh.sync(*words)
+    over, unpacked = re.search(rb"Transferred: sent \d+, received (\d+) bytes", answer.error), re.search(rb"([0-9,]+) received", answer.output)
+    assert answer.status == 0 and int(over[1]) < 2 ** 17 and int(unpacked[1].replace(b",", b"")) > 2 ** 22, answer
