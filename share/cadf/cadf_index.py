@@ -400,11 +400,11 @@ class EventIndex:
         """The windows that a key is in."""
         return [part for part, in self.run("SELECT DISTINCT name FROM bodies JOIN windows ON windows.id = window WHERE key = ?", (key,))]
 
-    def counts(self, by):
-        """How many events answer, of those that can be counted, by an hour or a day, or by what they have for a pattern of this kind first."""
+    def counts(self, by, of_bodies=False):
+        """How many events answer, of those that can be counted, by an hour or a day, or by what they have for a pattern of this kind first; or how many bodies may."""
         column, counts = by if by in COLUMNS else "second / %d" % LENGTHS[by] if by in LENGTHS else "others", collections.Counter()
-        numbers, tests = collections.Counter(), " AND ".join([*self.where, IS_KNOWN])
-        for rows, sign in (("bodies", 1), (OF_SEVERAL, -1)):  # which costs less than to look for each key among those of several
+        numbers, tests = collections.Counter(), " AND ".join([*self.where, "second IS NOT NULL" if of_bodies else IS_KNOWN])
+        for rows, sign in (("bodies", 1), *(() if of_bodies else ((OF_SEVERAL, -1),))):  # which costs less than to look for each key among those of several
             for number, count in self.run("SELECT %s, count(*) FROM %s WHERE %s GROUP BY 1" % (column, rows, tests), self.words):
                 numbers[number] += sign * count
         for number, count in (+numbers).items():

@@ -29,7 +29,7 @@ bin/cadf share/man/man1/cadf.1 share/bash-completion/completions/cadf share/zsh/
 share/cadf/cadf_budget.py share/cadf/cadf_children.py share/cadf/cadf_database.py share/cadf/cadf_formats.py
 share/cadf/cadf_index.py share/cadf/cadf_index_file.py
 share/cadf/cadf_keys.py share/cadf/cadf_ledgers.py share/cadf/cadf_lengths.py share/cadf/cadf_link.py share/cadf/cadf_logs.py
-share/cadf/cadf_metrics.py share/cadf/cadf_plan.py share/cadf/cadf_question.py share/cadf/cadf_repair.py share/cadf/cadf_rest.py
+share/cadf/cadf_metrics.py share/cadf/cadf_part.py share/cadf/cadf_plan.py share/cadf/cadf_question.py share/cadf/cadf_repair.py share/cadf/cadf_rest.py
 share/cadf/cadf_seals.py share/cadf/cadf_site.py share/cadf/cadf_spool.py share/cadf/cadf_state.py share/cadf/cadf_times.py
 share/cadf/cadf_toolkit.py share/cadf/cadf_windows.py share/cadf/version
 share/cadf/report/conflicts.js share/cadf/report/events.js share/cadf/report/filters.js share/cadf/report/guard.js

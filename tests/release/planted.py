@@ -10,7 +10,7 @@ CHANGED, INSTALLED, PACKAGES, UNITS = ("tests/package/test_%s.py -k " % name for
 CRASH, TURNS, OPENSTACK, LISTENER, COMPARED, SEALS = (
     "tests/tools/test_%s.py -k " % name for name in ("crash_order", "turns", "from_openstack", "listener", "compared", "seal"))
 PROOFS = "tests/tools/test_seal_proofs.py -k "
-REPORTS, MEANING = ("tests/tools/test_report%s.py -k " % name for name in ("", "_meaning"))
+REPORTS, MEANING, PARTS = ("tests/tools/test_report%s.py -k " % name for name in ("", "_meaning", "_part"))
 HEADER, TOLD = "tests/library/test_header.py -k ", "tests/docs/test_told.py -k "
 TOOLKIT = "tests/tools/test_toolkit.py"
 
@@ -128,7 +128,7 @@ ROWS = [
     Row("seal: present is enough", "share/cadf/cadf_seals.py", 'cadf(["verify", *words], inputs', 'cadf(["verify"], inputs', PROOFS + "test_present"),
     # ---- What a page of cadf-report holds and says
     Row("report: conflicts past 40", "tools/cadf-report", "        self.hashed.add(\"]\")\n        return numbers\n\n    def digests", "        self.hashed.add(\"]\")\n        return numbers[:40]\n\n    def digests", REPORTS + "test_many_conflicts"),
-    Row("report: ten million events", "tools/cadf-report", "MOST_EVENTS = 1000000", "MOST_EVENTS = 10000000", REPORTS + "test_most_events"),
+    Row("report: ten million events", "tools/cadf-report", "10 ** 6  # that", "10 ** 7  # that", PARTS + "test_as_many_as_the_page_says"),
     Row("report: a hangup is no end", "share/cadf/cadf_toolkit.py", "STOPPING = (signal.SIGHUP, ", "STOPPING = (", TURNS + "test_asked"),
     Row("page: sign of offsets", PAGE + "filters.js", '(sign === "-" ? -1 : 1)', '(sign === "-" ? 1 : -1)', MEANING + "test_times"),
     Row("page: fractions lost", PAGE + "filters.js", "Number(fraction || 0) * 1000", "0", MEANING + "test_times"),

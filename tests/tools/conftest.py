@@ -43,8 +43,12 @@ class Tried:
         driver.get("file://" + path)
 
     def ready(self):
-        assert self.js("return document.documentElement.dataset.ready"), self.driver.get_log("browser")
-        return self
+        """Waits until the page has unpacked its data and shows them."""
+        for _ in range(600):
+            if self.js("return document.documentElement.dataset.ready"):
+                return self
+            time.sleep(0.05)
+        raise AssertionError(self.driver.get_log("browser"))
 
     def logs(self):
         """What the console said since the last call, and what was asked for and not stopped by the page's policy."""

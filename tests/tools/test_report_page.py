@@ -2,6 +2,7 @@
 
 `tests/tools/test_report.py` tries the pages without a browser.
 """
+import base64
 import contextlib
 import http.server
 import json
@@ -9,16 +10,17 @@ import os
 import re
 import threading
 import time
+import zlib
 
 import pytest
 
 from tests.tools.conftest import Tried
 from tests.tools.odd_logs import ALERT, EVENT, attempts, heavy, hostile, hostile_event, plain, told_otherwise
+from tests.tools.test_report import DATA
 from tests.tools.test_sites import bare
 
 pytestmark = [pytest.mark.browser, pytest.mark.xdist_group("browser"), pytest.mark.timeout(600)]
 
-SHADOWS = re.compile(r"\\u003c")
 POLICY = re.compile('<meta http-equiv="Content-Security-Policy"[^>]*>')
 GUARDED = "window.navigation"
 
@@ -98,16 +100,21 @@ def test_hostile_aside(place, driver):
 
 
 def test_policy_alone(place, driver, hostile_page):
-    """With the escape taken out the data's script ends the block and stands in the page: the policy alone refuses it."""
-    with open(hostile_page, encoding="utf-8") as file:
-        page = file.read()
-    assert SHADOWS.search(page)
-    tried = Tried(driver, place.file("open.html", SHADOWS.sub("<", page).encode()))
+    """As they are, not packed, the data's script ends the block and stands in the page: the policy alone refuses it."""
+    tried = Tried(driver, place.file("open.html", unpacked(hostile_page).encode()))
     told, asked = tried.logs()
     assert tried.js("return document.scripts.length") > 2, "nothing came out of the block"
     assert tried.js("return window.pwned") is None
     assert any("Content Security Policy" in line for line in told), told
     assert asked == ["file://" + place.path("open.html")], asked
+
+
+def unpacked(path):
+    """A page in which its data are as they are, and not packed."""
+    with open(path, encoding="utf-8") as file:
+        page = file.read()
+    block = DATA.search(page)[1]
+    return page.replace(block, zlib.decompress(base64.b64decode(block)).decode())
 
 
 @contextlib.contextmanager
@@ -142,7 +149,7 @@ def attempted(driver, path, made):
 
 
 def test_attempts(place, driver):
-    """Each way to run a script, to load or to send: a page makes nothing of it. With the escape taken out it does, and the
+    """Each way to run a script, to load or to send: a page makes nothing of it. With the data not packed it does, and the
     policy alone refuses it. With the policy taken out too it works: it is an attempt."""
     with listening() as (address, asked):
         made = attempts(address)
@@ -160,13 +167,12 @@ def test_attempts(place, driver):
 
 
 def harmless(place, driver, name, texts):
-    """Opens everything of a page with these texts, in which they harm nothing. Returns the page with the escape taken out."""
+    """Opens everything of a page with these texts, in which they harm nothing. Returns the page with its data not packed."""
     log = {"id": "g", "events": [hostile_event("</script>" + text, "</script>" + text) for text in texts]}
     tried = Tried(driver, place.page(name, place.file(name + ".json", log))).ready()
     tried.open_all()
     tried.is_quiet()
-    with open(place.path(name + ".html"), encoding="utf-8") as file:
-        return SHADOWS.sub("<", file.read())
+    return unpacked(place.path(name + ".html"))
 
 
 def leaves(place, driver, text, asked):

@@ -153,6 +153,8 @@ function wire() {
   timelinePointer();
 }
 
+id("opening").remove();
+document.querySelector("main").hidden = false;
 fillHead();
 switches();
 frameAll();

@@ -1,7 +1,14 @@
 /* The data of the page, and how it is written to it.
  * A cell is a text, the number of a table entry, ["literal"], a list as [0, parts..] or an object as [shape, parts..]. */
 
-const data = JSON.parse(document.getElementById("data").textContent);
+/** Unpacks the data, which are JSON that was deflated, in base64. */
+async function unpacked() {
+  const packed = atob(document.getElementById("data").textContent), bytes = new Uint8Array(packed.length);
+  for (let at = 0; at < packed.length; at++) bytes[at] = packed.charCodeAt(at);
+  return JSON.parse(await new Response(new Blob([bytes]).stream().pipeThrough(new DecompressionStream("deflate"))).text());
+}
+
+const data = await unpacked();
 const positions = data.shapes.map(names => new Map(names.map((name, at) => [name, at + 1])));
 
 /** Follows a number to its entry. */
