@@ -39,7 +39,7 @@ def shown_times(tried):
 
 
 def switch_open(tried):
-    tried.js("[...document.querySelectorAll('#outcomes label')].find(each => each.textContent.includes('open conflicts')).click()")
+    tried.js("[...document.querySelectorAll('#outcomes label')].find(each => each.textContent.includes('contradicted')).click()")
 
 
 def test_times(opened):
@@ -48,10 +48,66 @@ def test_times(opened):
     log["events"] += [dict(EVENT, id="c", eventTime=CONFLICTED[0], name=name) for name in "ab"]
     tried = opened("times", log)
     wanted = [shown for _, shown in TIMES]
-    assert shown_times(tried) == wanted
+    assert shown_times(tried) == wanted[:2] + [CONFLICTED[1]] * 2 + wanted[2:]
     assert tried.texts("#span") == ["%s \u2013 %s UTC" % (wanted[0], wanted[-1])]
     switch_open(tried)
-    assert shown_times(tried) == wanted[:2] + [CONFLICTED[1]] * 2 + wanted[2:]
+    assert shown_times(tried) == wanted
+
+
+CONTRADICTED = [dict(EVENT, id="x", action=action, outcome=outcome, eventTime="2024-03-01T12:00:00.3Z", initiatorId="b", targetId="y")
+                for action, outcome in (("delete", "failure"), ("read", "success"))]
+
+
+def test_contradicted(opened):
+    """Who deleted what stands among the events though another body contradicts it: marked in the list, in the counts, in the timeline and in the matrix."""
+    log = document()
+    log["events"] += CONTRADICTED
+    tried = opened("contradicted", log)
+    assert tried.texts("#outcomes label") == ["\u2715 failure 1", "\u2026 pending 0", "? unknown 0", "\u2713 success 5", " contradicted 2"]
+    assert tried.texts("#panel-events .contradicted") == ["Among them 2 bodies of 1 contradicted event: the log shows none of these, until a ruling."]
+    assert tried.texts("#highest")[0].startswith("1 failure, 5 success; at most 4 in ")
+    assert tried.texts("#highest")[0].endswith("; among them 2 bodies of 1 contradicted event, as the line below shows")
+    tried.type("[data-filter=action]", "delete")
+    assert [row[1:4] for row in tried.js(ROWS)] == [["\u2715 failure", "contradicted, 1 of 2 delete", "b"]]
+    assert tried.texts("#panel-events .contradicted") == ["Among them 1 body of 1 contradicted event: the log shows none of these, until a ruling."]
+    tried.one(".opener").click()
+    assert tried.texts(".opened .compare thead th") == ["path", "value 1", "value 2"]
+    assert tried.texts(".opened .compare tbody td") == ['"delete"', '"read"', '"failure"', '"success"']
+    tried.show("pairs")
+    assert tried.texts(".matrix tbody td") == ["\u2260 1/1"] * 4
+    assert "\u2260 marks bodies of contradicted events." in tried.texts("caption")[0]
+
+
+def test_contradicted_is_never_none(opened):
+    """With these bodies switched off no view says that there is none: it says how many there are, and shows them by one click."""
+    log = document()
+    log["events"] += CONTRADICTED
+    tried = opened("switched", log)
+    switch_open(tried)
+    assert tried.texts("#outcomes label")[0] == "\u2715 failure 0"
+    tried.type("[data-filter=action]", "delete")
+    assert tried.texts("#panel-events .none") == ["No event of the log passes the filters."]
+    said = "Switched off, though the filters let them pass: 1 body of 1 contradicted event. Show them"
+    assert tried.texts("#panel-events .contradicted") == [said]
+    assert "; not among them 1 body of 1 contradicted event" in tried.texts("#highest")[0]
+    tried.show("pairs")
+    assert tried.texts("#panel-pairs .contradicted") == [said]
+    tried.one("#panel-pairs .contradicted button").click()
+    tried.show("events")
+    assert [row[2] for row in tried.js(ROWS)] == ["contradicted, 1 of 2 delete"]
+
+
+def test_leads_to_the_choice(opened):
+    """From a contradicted event a button leads to the choice among its values, and to no other conflict."""
+    log = document()
+    log["events"] += CONTRADICTED + [dict(EVENT, id="z", name=name, eventTime="2024-03-01T20:00:00Z") for name in "ab"]
+    tried = opened("choice", log)
+    tried.type("[data-filter=action]", "delete")
+    tried.one(".opener").click()
+    tried.js("[...document.querySelectorAll('.opened button')].find(each => each.textContent === 'Choose among them').click()")
+    assert tried.one("#panel-conflicts").is_displayed()
+    assert tried.texts("#panel-conflicts article h3 bdi") == ["x"]
+    assert len(tried.all("#panel-conflicts article input[type=radio]")) == 2
 
 
 @pytest.mark.parametrize("year", ["2024", "9998"])

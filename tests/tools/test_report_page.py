@@ -82,7 +82,6 @@ def test_hostile(place, driver, hostile_page):
     assert tried.js("return document.documentElement.scrollWidth <= innerWidth"), "the page is wider than the window"
     assert tried.js("try { document.body.innerHTML = 'x'; return 'open' } catch (fault) { return fault.name }") == "TypeError"
     tried.show("events")
-    tried.js("[...document.querySelectorAll('#outcomes label')].find(each => each.textContent.includes('open conflicts')).click()")
     shown = len(json.loads(place.run("cadf", "show", "hostile.cadf"))["events"])
     listed = json.loads(place.run("cadf", "show", "--conflicts", "hostile.cadf"))["conflicts"]
     wanted = shown + sum(len(each["values"]) for each in listed if each["kind"] == "E")
@@ -338,12 +337,13 @@ def test_ruled_page(place, driver, ruled_page):
     tried = Tried(driver, ruled_page).ready()
     assert tried.texts("#open") == ["1"]
     tried.show("conflicts")
-    heads = tried.js("return [...document.querySelectorAll('article')].slice(0, 2).map(card => [...card.querySelectorAll('.compare')[0].querySelectorAll('thead th')].map(each => each.textContent))")
+    assert tried.texts("article h3 .badge")[:2] == ["open", "settled by a ruling"], "open ones come first"
+    heads = tried.js("return [...document.querySelectorAll('article')].slice(1, 3).map(card => [...card.querySelectorAll('.compare')[0].querySelectorAll('thead th')].map(each => each.textContent))")
     shown = " ruled, shown in the log"
     assert heads == [["path", "value 1", "value 2" + shown], ["path", "value 1" + shown, "value 2"]], heads
-    assert len(tried.all("article:first-of-type input[type=radio]")) == 0
+    assert len(tried.all("article:nth-of-type(2) input[type=radio]")) == 0
     assert set(tried.texts("[role=tabpanel]:not([hidden]) > section tbody td:last-child")) == {"settles its key: the log shows the value"}
-    marks = tried.texts("article:first-of-type mark")
+    marks = tried.texts("article:nth-of-type(2) mark")
     assert marks == ["failure", "success"], marks
     tried.is_quiet()
 
@@ -378,12 +378,18 @@ def test_two_sites(place, driver, sites_page):
     assert rows == [["all facts", "61", "61"], ["events", "30", "30"], ["resources", "1", "1"], ["chains", "30", "30"]], rows
     assert len(tried.all("figure.lacks rect")) == 2
     tried.all(".counts-of button")[2].click()
-    assert tried.texts("#panel-sites .where") == ["1\u201330 of 30"], tried.texts("#panel-sites .where")
+    assert tried.texts("#panel-sites .where") == ["1\u201320 of 31", "1\u201330 of 30"], tried.texts("#panel-sites .where")
     tried.open_all()
     tried.is_quiet()
+    assert tried.texts("#named") == ["These files: north.json. The other site: south.json"]
+    assert tried.texts("#union dd") == ["31"]
+    assert tried.texts("#together") == ["Together they have 31 conflicts, of which 31 are open; 31 are between them alone:"]
+    assert tried.texts("#panel-sites article:first-of-type th[scope=col]") == ["path", "value 1: south.json", "value 2: north.json"]
+    assert tried.texts("#panel-sites article:first-of-type mark") == ["failure", "success"]
     tried = Tried(driver, place.page("same", "--against", "both", "both")).ready()
     tried.show("sites")
-    assert tried.texts("#panel-sites") == ["Both sites hold the same facts."]
+    assert tried.texts("#panel-sites") == ["These files: both. The other site: bothBoth sites hold the same facts."]
+    assert tried.texts("#union dd") == ["31"]
 
 # ---- For everyone
 
@@ -450,7 +456,7 @@ def test_small(place, driver):
     logs = {"empty": {"id": "g", "events": []}, "one": {"id": "g", "events": [dict(EVENT, id="e")]},
             "open": {"id": "g", "events": [dict(EVENT, id="e", name=name) for name in "ab"]},
             "entities": {"id": "g", "events": [], "metrics": [{"metricId": "m", "v": v} for v in (1, [], "1")], "p": {"q": []}}}
-    said = {"empty": ["The log shows no event.", "Nothing contradicts"], "one": ["Nothing contradicts"], "open": ["Each event has an open conflict"],
+    said = {"empty": ["The log shows no event.", "Nothing contradicts"], "one": ["Nothing contradicts"], "open": ["the log shows none of these, until a ruling"],
             "entities": ["The log shows no event.", "3 values differ"]}
     for name, log in logs.items():
         tried = Tried(driver, place.page(name, place.file(name + ".json", log))).ready()

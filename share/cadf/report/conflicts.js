@@ -217,10 +217,10 @@ function choiceBar() {
 
 /* ---- The comparison. ---- */
 
-/** Makes the head of a value: its place, what chooses it, and what a ruling says of it. */
-function valueHead(at, {place, ruled, shown}) {
+/** Makes the head of a value: its place, what chooses it if one may, and what a ruling says of it. */
+function valueHead(at, {place, ruled, shown}, mayChoose) {
   const made = make("th", {scope: "col"}), name = `value ${place}`;
-  if (ruledOf(at).size) made.append(name);
+  if (!mayChoose || ruledOf(at).size) made.append(name);
   else {
     const pick = make("input", {type: "radio", name: "choice-" + at, value: place, "aria-label": `Choose ${name} of ` + cut(named(keyOf(at)), 80)});
     pick.checked = choices.get(at) === place;
@@ -234,18 +234,27 @@ function valueHead(at, {place, ruled, shown}) {
 
 const COLUMNS = 6, PATTERNS = 10;
 
-/** Makes the comparison of a conflict's values, some at a time. */
-function compareTable(at, values, from, turn) {
-  const isEvent = kindOf(at) === "E", result = compared(values, isEvent);
+/** Makes the comparison of values of a kind, some at a time, each below its head. */
+function compareTable(kind, values, from, turn, head) {
+  const isEvent = kind === "E", result = compared(values, isEvent);
   const some = values.slice(from, from + COLUMNS), flat = result.flat.slice(from, from + COLUMNS);
   const body = make("tbody", {}, ...result.differing.slice(0, 500).map(path => comparison(path, flat, true)));
   const foot = make("tfoot");
   if (result.differing.length > 500) foot.append(make("tr", {}, make("td", {colspan: some.length + 1, class: "minor"}, `and ${counted(result.differing.length - 500)} more paths`)));
   if (isEvent) foot.append(make("tr", {}, make("th", {scope: "row"}, "came with it"), ...some.map(({value}) => cameCell(value))));
-  const heads = make("thead", {}, make("tr", {}, make("th", {scope: "col"}, "path"), ...some.map(value => valueHead(at, value))));
+  const heads = make("thead", {}, make("tr", {}, make("th", {scope: "col"}, "path"), ...some.map(head)));
   const made = make("div", {}, make("div", {class: "scroll"}, make("table", {class: "compare"}, heads, body, foot)));
   if (values.length > COLUMNS) made.prepend(pager(values.length, COLUMNS, from / COLUMNS, page => turn(page * COLUMNS)));
   return [made, result];
+}
+
+/** Makes the comparison of a contradicted event's values that stands above one of them, and what leads to the choice among them. */
+function sideBySide(at) {
+  const values = valuesOf(at), made = make("div");
+  const lead = button("Choose among them", () => showConflict(at), {class: "small"});
+  const show = from => made.replaceChildren(titled(`Contradicted: ${counted(values.length)} values, of which the log shows none`, compareTable("E", values, from, show, value => valueHead(at, value, false))[0], lead));
+  show(0);
+  return made;
 }
 
 /** Makes a value in full, with the line that rules for it alone. */
@@ -289,7 +298,7 @@ function conflictCard(at) {
   const title = put(make("h3", {}, make("span", {class: "kind"}, KINDS[kindOf(at)]), " "), cut(keyOf(at), 1024));
   title.append(" ", make("span", {class: "badge " + state}, words));
   const show = from => {
-    const [table, result] = compareTable(at, values, from, show), count = result.differing.length;
+    const [table, result] = compareTable(kindOf(at), values, from, show, value => valueHead(at, value, true)), count = result.differing.length;
     const differ = make("p", {class: "minor"}, `${counted(values.length)} values differ in ${counted(count)} ${count === 1 ? "path" : "paths"}`);
     const bar = make("div", {class: "bar"}, title, differ, ...(kindOf(at) === "E" ? [about(values[0].value)] : []));
     card.replaceChildren(bar, table, conflictMore(at, values, result));
@@ -322,10 +331,13 @@ function findPaths() {
   paths = conflicts.map((_, at) => parting(valuesOf(at).map(({value}) => value), "", [], kindOf(at) === "E" ? BESIDE : undefined));
 }
 
+/** Lists the conflicts, open ones first. */
+const openFirst = () => conflicts.map((_, at) => at).sort((a, b) => isSettled(conflicts[a]) - isSettled(conflicts[b]));
+
 /** Groups conflicts by the paths at which their values part. */
 function patterns() {
   const groups = new Map();
-  conflicts.forEach((_, at) => {
+  openFirst().forEach(at => {
     const kind = kindOf(at), key = JSON.stringify([kind, ...paths[at]]);
     if (!groups.has(key)) groups.set(key, {kind, differing: paths[at], members: []});
     groups.get(key).members.push(at);
@@ -334,7 +346,7 @@ function patterns() {
 }
 
 /** Lists the groups of conflicts; each can be chosen. */
-function patternList(groups, pick) {
+function patternList(groups, everything, pick) {
   const list = make("ul", {class: "patterns"});
   const add = (label, members, differing) => {
     const made = button(label, () => {
@@ -345,7 +357,7 @@ function patternList(groups, pick) {
     if (differing && differing.length > 8) made.append(` and ${differing.length - 8} more`);
     list.append(make("li", {}, made));
   };
-  add(`all ${counted(conflicts.length)}`, conflicts.map((_, at) => at));
+  add(`all ${counted(conflicts.length)}`, everything);
   for (const {kind, differing, members} of groups.slice(0, PATTERNS)) add(`${counted(members.length)} ${KINDS[kind]}${members.length > 1 ? "s differ" : " differs"} in `, members, differing);
   if (groups.length > PATTERNS) list.append(make("li", {class: "minor"}, `and ${counted(groups.length - PATTERNS)} more groups`));
   return list;
@@ -370,11 +382,20 @@ function rulingTable() {
   return titled(`Rulings: ${counted(rulings.length)}`, ...(rulings.length > 50 ? [top] : []), make("div", {class: "scroll"}, make("table", {class: "pairs"}, heads, body)));
 }
 
-/** Lists conflicts by group and search, with what chooses among their values. */
+let pickConflicts = null;   // shows these conflicts alone, once their view was filled
+
+/** Shows one conflict in their view. */
+function showConflict(at) {
+  showPanel("conflicts");
+  pickConflicts([at]);
+  id("panel-conflicts").focus();
+}
+
+/** Lists conflicts by group and search, open ones first, with what chooses among their values. */
 function conflictList(panel) {
   findPaths();
   const cards = make("div"), top = make("div", {class: "pages"});
-  const everything = conflicts.map((_, at) => at);
+  const everything = openFirst();
   let group = everything, listed = everything, searched = "";
   const bulk = bulkChoice(() => listed), list = paged(20, top, cards, conflictCard, () => group.length);
   const show = pick => {
@@ -390,7 +411,8 @@ function conflictList(panel) {
   choiceWatchers.push(() => {
     for (const pick of cards.querySelectorAll("input[type=radio]")) pick.checked = choices.get(Number(pick.name.slice(7))) === Number(pick.value);
   });
-  panel.append(patternList(patterns(), show), bulk.element, choiceBar(), top, cards);
+  pickConflicts = show;
+  panel.append(patternList(patterns(), everything, show), bulk.element, choiceBar(), top, cards);
   return () => show();
 }
 

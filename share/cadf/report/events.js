@@ -174,10 +174,10 @@ function partyCell(event, role) {
   return put(made, cut(identifier, 300), both ? "small" : "bdi");
 }
 
-/** Makes the cell of an action; a value of an open conflict says there that it is one. */
+/** Makes the cell of an action; the body of a contradicted event says there that it is one. */
 function actionCell(event) {
   const action = columns.action.of(event), made = make("td", {title: cut(named(action), 400)});
-  if (isOpen[event]) made.append(make("span", {class: "badge open"}, "open"), " ");
+  if (isOpen(event)) made.append(make("span", {class: "badge open"}, `contradicted, 1 of ${data.digests[conflictOf[event]].length}`), " ");
   return put(made, cut(action, 200));
 }
 
@@ -192,7 +192,7 @@ function row(event) {
     made.classList.toggle("open", !was);
     opened[was ? "delete" : "add"](event);
     if (was) made.nextSibling.remove();
-    else made.after(make("tr", {class: "opened"}, make("td", {colspan: HEADS.length}, detail(events[event]))));
+    else made.after(make("tr", {class: "opened"}, make("td", {colspan: HEADS.length}, ...(isOpen(event) ? [sideBySide(conflictOf[event])] : []), detail(events[event]))));
   };
   const outcomeCell = put(make("td", {class: "outcome"}, chip(outcome), " "), columns.outcome.of(event));
   made.append(make("td", {class: "time"}, opener), outcomeCell, actionCell(event), ...PARTIES.map(role => partyCell(event, role)));
@@ -226,9 +226,20 @@ function filterOf([name, label]) {
 
 /** Says why no event is listed. */
 function whyNone() {
-  if (inLog.length) return "No event passes the filters.";
-  if (!openValues.length) return "The log shows no event.";
-  return "Each event has an open conflict, so the log shows none: see the conflicts, or switch the values of open conflicts on.";
+  const some = id("range").textContent ? " The page has not all of the log: its head says what." : "";
+  return (hidden.length ? "No event of the log passes the filters." : events.length ? "No event passes the filters." : "The log shows no event.") + some;
+}
+
+/** Says how many bodies of contradicted events are listed, or that some would be, which a button shows. */
+function openNote() {
+  const bodies = listed.filter(isOpen), made = make("p", {class: "minor contradicted", role: "status"});
+  if (bodies.length) made.append(`Among them ${contradicted(bodies)}: the log shows none of these, until a ruling.`);
+  if (hidden.length) made.append(`Switched off, though the filters let them pass: ${contradicted(hidden)}. `, button("Show them", () => {
+    chosen.open = true;
+    switches();
+    update();
+  }, {class: "small"}));
+  return made;
 }
 
 /** Makes the head of a table. */
@@ -240,12 +251,14 @@ function eventsPanel(panel) {
   const heads = make("thead", {}, make("tr", {}, ...HEADS.map(head)), make("tr", {class: "filters"}, ...HEADS.map(filterOf)));
   const table = make("table", {class: fine ? "events fine" : "events"}, heads, body);
   const list = paged(SIZE, top, body, row, () => chosen.open ? events.length : inLog.length);
+  const note = make("div");
   const show = () => {
     list(listed);
+    note.replaceChildren(openNote());
     if (!listed.length) body.append(make("tr", {}, make("td", {colspan: HEADS.length, class: "none"}, whyNone())));
     const order = chosen.falling ? "descending" : "ascending";
     for (const each of table.querySelectorAll("th")) each.setAttribute("aria-sort", each.dataset.sort === chosen.sort ? order : "none");
   };
   watchers.push(show);
-  panel.append(top, make("div", {class: "scroll"}, table));
+  panel.append(top, note, make("div", {class: "scroll"}, table));
 }

@@ -6,11 +6,17 @@ const OUTCOMES = ["failure", "pending", "unknown", "success"];
 const MARKS = ["\u2715", "\u2026", "?", "\u2713"];
 const conflicts = parts(member(data.listed, "conflicts"));
 const rulings = parts(member(data.listed, "rulings"));
-const unsettled = conflicts.filter(conflict => member(conflict, "ruled") === undefined);
-const openValues = unsettled.filter(conflict => plain(member(conflict, "kind")) === "E").flatMap(conflict => parts(member(conflict, "values")));
+const isSettled = conflict => member(conflict, "ruled") !== undefined;
+const unsettled = conflicts.filter(conflict => !isSettled(conflict));
+const openValues = [], owners = [];   // the bodies of contradicted events, and which conflict each is of
+conflicts.forEach((conflict, at) => {
+  if (isSettled(conflict) || plain(member(conflict, "kind")) !== "E") return;
+  for (const value of parts(member(conflict, "values"))) owners[openValues.push(value) - 1] = at;
+});
 const inLog = parts(member(data.log, "events"));
 const events = inLog.concat(openValues);   // put in order of time below
-const isOpen = new Uint8Array(events.length);   // whether it is a value of an open conflict
+const conflictOf = new Int32Array(events.length).fill(-1);   // of a body of a contradicted event its conflict
+const isOpen = event => conflictOf[event] >= 0;
 
 /** Numbers the distinct texts of a column in the order in which they come. */
 class Column {
@@ -67,11 +73,11 @@ function party(event, role) {
   return [plain(member(embedded, "id")), name !== undefined && isText(name) ? real(name) : ""];
 }
 
-/** Puts the values of open conflicts among the events of the log, by time; equal times keep the log's order. */
+/** Puts the bodies of contradicted events among the events of the log, by time; equal times keep the log's order. */
 function mergeOpen() {
   const when = events.map(event => instant(plain(member(event, "eventTime"))));
   const order = when.map((_, at) => at).sort((a, b) => when[a] - when[b] || a - b), before = events.slice();
-  order.forEach((from, to) => { events[to] = before[from]; isOpen[to] = from >= inLog.length ? 1 : 0; });
+  order.forEach((from, to) => { events[to] = before[from]; conflictOf[to] = from < inLog.length ? -1 : owners[from - inLog.length]; });
 }
 
 if (openValues.length) mergeOpen();
@@ -89,9 +95,10 @@ events.forEach((event, at) => {
 /* ---- What is chosen, and which events that leaves. ---- */
 
 const all = {search: "", action: "", initiator: "", target: "", observer: "", from: -Infinity, until: Infinity};
-const chosen = {...all, outcomes: new Set([0, 1, 2, 3]), open: false, sort: "time", falling: false};
+const chosen = {...all, outcomes: new Set([0, 1, 2, 3]), open: true, sort: "time", falling: false};
 let passing = [];   // events that pass all but the range of time
 let listed = [];    // those within the range, sorted
+let hidden = [];    // bodies of contradicted events that pass, while they are switched off
 const watchers = [];
 
 /** A search for a text in all texts and member names, in either case; what is shared is looked at once. */
@@ -124,12 +131,12 @@ function passes(column, wanted) {
   return Uint8Array.from(column.texts, (string, number) => test(string, column.names[number]) ? 1 : 0);
 }
 
-/** Lists the events that pass all filters but the range of time. */
+/** Lists the events that pass all filters but the range of time, and those bodies of contradicted ones that do. */
 function filtered() {
   const tests = Object.keys(columns).map(name => [columns[name].at, passes(columns[name], chosen[name] || "")]).filter(([, test]) => test);
   const search = chosen.search ? new Search(chosen.search) : null, found = [];
   for (let event = 0; event < events.length; event++) {
-    if (!chosen.outcomes.has(outcomes[event]) || isOpen[event] && !chosen.open) continue;
+    if (!chosen.outcomes.has(outcomes[event])) continue;
     if (tests.some(([at, test]) => !test[at[event]])) continue;
     if (search && !search.finds(events[event])) continue;
     found.push(event);
@@ -148,8 +155,19 @@ function sorted(found) {
 /** Works out again what is listed, and shows it. */
 function update({filters = true} = {}) {
   if (filters) passing = filtered();
-  listed = sorted(passing.filter(event => times[event] >= chosen.from && times[event] < chosen.until));
+  const within = passing.filter(event => times[event] >= chosen.from && times[event] < chosen.until);
+  hidden = chosen.open ? [] : within.filter(isOpen);
+  listed = sorted(within.filter(isSwitchedOn));
   for (const show of watchers) show();
+}
+
+/** Tells whether an event isn't switched off as the body of a contradicted one. */
+const isSwitchedOn = event => chosen.open || !isOpen(event);
+
+/** Says how many bodies of how many contradicted events these are. */
+function contradicted(bodies) {
+  const keys = new Set(bodies.map(event => conflictOf[event])).size;
+  return `${counted(bodies.length)} ${bodies.length === 1 ? "body" : "bodies"} of ${counted(keys)} contradicted ${keys === 1 ? "event" : "events"}`;
 }
 
 /** Sets filters from elsewhere on the page, and shows the events. */

@@ -127,6 +127,8 @@ function fillHead() {
   id("range").hidden = !id("range").textContent;
   id("open").textContent = counted(unsettled.length);
   id("sums").textContent = explained();
+  id("union").hidden = !data.union;
+  if (data.union) id("union").lastElementChild.textContent = counted(data.union.every);
   id("aside").hidden = !data.aside;
   if (!data.aside) id("asides").textContent = "What was set aside before it came into a site is not on it.";
 }
@@ -142,7 +144,7 @@ function wire() {
   id("search").dataset.filter = "search";
   id("search").addEventListener("input", calmed(() => { chosen.search = id("search").value; update(); }));
   id("clear").addEventListener("click", () => {
-    chosen.outcomes = new Set([0, 1, 2, 3]);
+    Object.assign(chosen, {outcomes: new Set([0, 1, 2, 3]), open: true});
     switches();
     frameAll();
     choose(all);
@@ -159,7 +161,7 @@ fillHead();
 switches();
 frameAll();
 watchers.push(drawTimeline);
-addPanel("events", "Events", inLog.length, eventsPanel, true);
+addPanel("events", "Events", events.length, eventsPanel, true);
 addPanel("pairs", "Who to what", null, pairsPanel);
 addPanel("conflicts", "Conflicts", conflicts.length, conflictsPanel);
 if (data.lacks.length) addPanel("sites", "Two sites", data.lacks.reduce((before, side) => before + parts(side).length, 0), sitesPanel);

@@ -55,6 +55,30 @@ function lackRow({side, kind, key, value, body, time}) {
     make("td", {class: "time"}, Number.isNaN(time) ? "" : stamp(time)), what);
 }
 
+/** Spells the body of an event, or another value. */
+const bodyText = cell => isObject(cell) ? JSON.stringify(entries(cell).filter(([name]) => !BESIDE.has(name)).map(([name, part]) => [name, text(part)])) : text(cell);
+
+/** Makes what compares the values of conflicts that two sites have together alone, and says which of them has each. */
+function betweenSites(facts) {
+  const {names, every, open, between} = data.union, body = make("div"), top = make("div", {class: "pages"});
+  const lacked = SIDES.map((_, side) => new Set(facts.filter(fact => fact.side === side).map(fact => fact.kind + fact.key + bodyText(fact.value))));
+  const list = paged(20, top, body, ([cell]) => {
+    const kind = plain(member(cell, "kind")), key = plain(member(cell, "key")), card = make("article", {class: "conflict"});
+    const holder = value => lacked.findIndex(each => each.has(kind + key + bodyText(value)));
+    const values = parts(member(cell, "values")).map((value, at) => ({value, place: at + 1}));
+    const head = ({value, place}) => {
+      const lacking = holder(value), made = make("th", {scope: "col"}, `value ${place}: `);
+      return lacking < 0 ? put(made, "both sites") : put(made, cut(names[1 - lacking], 80));
+    };
+    const show = from => card.replaceChildren(put(make("h3", {}, make("span", {class: "kind"}, KINDS[kind]), " "), cut(key, 1024)), compareTable(kind, values, from, show, head)[0]);
+    show(0);
+    return card;
+  });
+  list(between);
+  const said = `Together they have ${counted(every)} conflicts, of which ${counted(open)} are open`;
+  return titled("Conflicts of both together", make("p", {id: "together"}, between.length ? `${said}; ${counted(between.length)} are between them alone:` : said + "."), ...(between.length ? [top, body] : []));
+}
+
 /** Makes the panel of two sites; its list obeys the range of time and the search. */
 function sitesPanel(panel) {
   const facts = [...lacking(0), ...lacking(1)].sort((a, b) => (a.time || 0) - (b.time || 0));
@@ -67,8 +91,11 @@ function sitesPanel(panel) {
     list(group.filter(({time, cell}) => (!limits || time >= chosen.from && time < chosen.until) && (!search || search.finds(cell))));
   };
   watchers.push(show);
+  const [here, other] = data.union.names, named = put(make("p", {id: "named"}, "These files: "), cut(here, 400));
+  named.append(". The other site: ");
+  panel.append(put(named, cut(other, 400)));
   if (!facts.length) panel.append(make("p", {class: "none"}, "Both sites hold the same facts."));
-  else panel.append(lackCounts(facts, found => { group = found; show(); }), lackTimeline(facts), top,
+  else panel.append(betweenSites(facts), lackCounts(facts, found => { group = found; show(); }), lackTimeline(facts), top,
     make("div", {class: "scroll"}, make("table", {class: "pairs"}, heading(["Who lacks it", "Kind", "Key", "Time (UTC)", "What"]), body)));
   return show;
 }

@@ -32,6 +32,7 @@ function frameAll() {
 function binned() {
   const bins = Array.from({length: Math.round((timeline.until - timeline.from) / timeline.step)}, () => [0, 0, 0, 0]);
   for (const event of passing) {
+    if (!isSwitchedOn(event)) continue;
     const bin = bins[Math.floor((times[event] - timeline.from) / timeline.step)];
     if (bin) bin[outcomes[event]]++;
   }
@@ -64,17 +65,17 @@ function bar(bin, at, width, most) {
   return column;
 }
 
-/** Draws below the bars when events of open conflicts happened, which are not in the log. */
+/** Draws below the bars when bodies of contradicted events say that they happened, of those that pass. */
 function openStrip(width) {
   const counts = new Map(), group = draw("g");
-  for (let event = isOpen.indexOf(1); event >= 0; event = isOpen.indexOf(1, event + 1)) {
+  for (const event of passing.filter(isOpen)) {
     const at = Math.floor((times[event] - timeline.from) / timeline.step);
     if (at >= 0 && at < timeline.bins.length) counts.set(at, (counts.get(at) || 0) + 1);
   }
   const most = Math.max(1, ...counts.values());
   for (const [at, count] of counts) {
     const box = {x: at * width + 0.4, y: BASE + 1.5, width: Math.max(1, width - 0.8), height: 3.5, opacity: 0.3 + 0.7 * count / most};
-    group.append(draw("rect", {class: "conflicted", ...box}, draw("title", {}, `${counted(count)} values of open conflicts`)));
+    group.append(draw("rect", {class: "conflicted", ...box}, draw("title", {}, `${counted(count)} bodies of contradicted events`)));
   }
   return group;
 }
@@ -128,7 +129,9 @@ function drawTimeline() {
   });
   picture.append(openStrip(width), scale(most), axis(timeline, BASE));
   id("histogram").replaceChildren(picture);
-  id("highest").textContent = `${words(sum(timeline.bins))}; at most ${counted(most)} in ${length(timeline.step)}`;
+  const open = passing.filter(event => isOpen(event) && times[event] >= timeline.from && times[event] < timeline.until);
+  id("highest").textContent = `${words(sum(timeline.bins))}; at most ${counted(most)} in ${length(timeline.step)}`
+    + (open.length ? `; ${chosen.open ? "among them" : "not among them"} ${contradicted(open)}, as the line below shows` : "");
   sayRange();
   id("from").value = chosen.from > -Infinity ? day(chosen.from) : "";
   id("until").value = chosen.until < Infinity ? day(chosen.until) : "";
@@ -239,19 +242,23 @@ function toggle(checked, mark, name, count, action) {
   return make("label", {class: "switch"}, box, mark, " " + name + " ", make("b", {}, counted(count)));
 }
 
-/** Makes the switches of outcomes, and one for values of open conflicts, that are off at first since the log doesn't show them. */
+/** Makes the switches of outcomes, and one for bodies of contradicted events. */
 function switches() {
   const counts = [0, 0, 0, 0];
-  outcomes.forEach((outcome, event) => { if (!isOpen[event]) counts[outcome]++; });
+  outcomes.forEach((outcome, event) => { if (isSwitchedOn(event)) counts[outcome]++; });
   const turn = outcome => on => chosen.outcomes[on ? "add" : "delete"](outcome);
   const made = OUTCOMES.map((name, outcome) => toggle(chosen.outcomes.has(outcome), chip(outcome), name, counts[outcome], turn(outcome)));
-  const strip = make("span", {class: "chip conflicted"}), turnOpen = on => { chosen.open = on; };
+  const strip = make("span", {class: "chip conflicted"}), turnOpen = on => {
+    chosen.open = on;
+    switches();
+    id("outcomes").querySelector("label:last-of-type input").focus();
+  };
   made.push(button("Only failures", () => {
     chosen.outcomes = new Set([0]);
     switches();
     update();
     id("outcomes").querySelector("button").focus();
   }, {class: "small"}));
-  if (openValues.length) made.push(toggle(chosen.open, strip, "of open conflicts", openValues.length, turnOpen));
+  if (openValues.length) made.push(toggle(chosen.open, strip, "contradicted", openValues.length, turnOpen));
   id("outcomes").replaceChildren(id("outcomes").firstElementChild, ...made);
 }
