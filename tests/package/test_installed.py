@@ -32,7 +32,7 @@ share/cadf/cadf_keys.py share/cadf/cadf_ledgers.py share/cadf/cadf_lengths.py sh
 share/cadf/cadf_metrics.py share/cadf/cadf_part.py share/cadf/cadf_plan.py share/cadf/cadf_question.py share/cadf/cadf_repair.py share/cadf/cadf_rest.py
 share/cadf/cadf_seals.py share/cadf/cadf_site.py share/cadf/cadf_spool.py share/cadf/cadf_state.py share/cadf/cadf_times.py
 share/cadf/cadf_toolkit.py share/cadf/cadf_windows.py share/cadf/version
-share/cadf/report/conflicts.js share/cadf/report/events.js share/cadf/report/filters.js share/cadf/report/guard.js
+share/cadf/report/conflicts.js share/cadf/report/events.js share/cadf/report/evidence.js share/cadf/report/filters.js share/cadf/report/guard.js
 share/cadf/report/page.css share/cadf/report/page.html share/cadf/report/page.js share/cadf/report/pairs.js
 share/cadf/report/sites.js share/cadf/report/timeline.js share/cadf/report/values.js
 share/doc/cadf/installed share/doc/cadf/README.md share/doc/cadf/CHANGELOG.md share/doc/cadf/CONTRIBUTING.md share/doc/cadf/bench/RESULTS.md

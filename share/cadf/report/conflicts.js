@@ -140,9 +140,7 @@ function choicesFile() {
 
 /** Hands the file of all choices to the browser to be saved. */
 function saveChoices() {
-  const address = URL.createObjectURL(new Blob([choicesFile()], {type: "text/plain"}));
-  make("a", {href: address, download: "choices.txt"}).click();
-  setTimeout(() => URL.revokeObjectURL(address), 60000);
+  save("choices.txt", "text/plain", [choicesFile()]);
 }
 
 /** Names what tells a conflict's values apart: what they have at the paths at which they differ, and who reported them. */

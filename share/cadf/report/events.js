@@ -161,7 +161,7 @@ function detail(event) {
 
 /* ---- The table of events. ---- */
 
-const SIZE = 100;
+const SIZE = 100, LONGEST_NAME = 1024;   // bytes of an identifier, so characters at most
 const opened = new Set();   // events that are shown in full when their row is in view
 const HEADS = [["time", "Time (UTC)"], ["outcome", "Outcome"], ["action", "Action"], ["initiator", "Initiator"], ["target", "Target"], ["observer", "Observer"]];
 
@@ -170,8 +170,8 @@ function partyCell(event, role) {
   const [identifier, name] = party(events[event], role);
   const made = make("td", {class: "party", title: cut(named(name ? name + "\n" + identifier : identifier), 400)});
   const both = name && name !== identifier;
-  if (both) put(made, cut(name, 200)).append(" ");
-  return put(made, cut(identifier, 300), both ? "small" : "bdi");
+  if (both) put(made, cut(name, LONGEST_NAME)).append(" ");
+  return put(made, cut(identifier, LONGEST_NAME), both ? "small" : "bdi");
 }
 
 /** Makes the cell of an action; the body of a contradicted event says there that it is one. */
@@ -195,7 +195,8 @@ function row(event) {
     else made.after(make("tr", {class: "opened"}, make("td", {colspan: HEADS.length}, ...(isOpen(event) ? [sideBySide(conflictOf[event])] : []), detail(events[event]))));
   };
   const outcomeCell = put(make("td", {class: "outcome"}, chip(outcome), " "), columns.outcome.of(event));
-  made.append(make("td", {class: "time"}, opener), outcomeCell, actionCell(event), ...PARTIES.map(role => partyCell(event, role)));
+  made.append(make("td", {class: "time"}, opener), outcomeCell, actionCell(event), ...PARTIES.map(role => partyCell(event, role)),
+    put(make("td", {class: "printed"}), plain(member(events[event], "id"))));
   made.addEventListener("click", click => { if (!opener.contains(click.target) && !String(getSelection())) open(); });
   rows.append(made);
   if (opened.has(event)) open();
@@ -248,7 +249,7 @@ const heading = (labels, numeric = []) => make("thead", {}, make("tr", {}, ...la
 /** Makes the panel of events; it shows itself again whenever what is listed changes. */
 function eventsPanel(panel) {
   const body = make("tbody"), top = make("div", {class: "pages"});
-  const heads = make("thead", {}, make("tr", {}, ...HEADS.map(head)), make("tr", {class: "filters"}, ...HEADS.map(filterOf)));
+  const heads = make("thead", {}, make("tr", {}, ...HEADS.map(head), make("th", {scope: "col", class: "printed"}, "Identifier")), make("tr", {class: "filters"}, ...HEADS.map(filterOf)));
   const table = make("table", {class: fine ? "events fine" : "events"}, heads, body);
   const list = paged(SIZE, top, body, row, () => chosen.open ? events.length : inLog.length);
   const note = make("div");
@@ -260,5 +261,5 @@ function eventsPanel(panel) {
     for (const each of table.querySelectorAll("th")) each.setAttribute("aria-sort", each.dataset.sort === chosen.sort ? order : "none");
   };
   watchers.push(show);
-  panel.append(top, note, make("div", {class: "scroll"}, table));
+  panel.append(make("div", {class: "bar"}, top, savers()), note, make("div", {class: "scroll"}, table));
 }

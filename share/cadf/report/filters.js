@@ -94,6 +94,7 @@ events.forEach((event, at) => {
 
 /* ---- What is chosen, and which events that leaves. ---- */
 
+const TEXTS = ["search", "action", "initiator", "target", "observer"];   // the filters that are typed
 const all = {search: "", action: "", initiator: "", target: "", observer: "", from: -Infinity, until: Infinity};
 const chosen = {...all, outcomes: new Set([0, 1, 2, 3]), open: true, sort: "time", falling: false};
 let passing = [];   // events that pass all but the range of time

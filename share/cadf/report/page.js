@@ -45,7 +45,7 @@ function asidePanel(panel) {
 
 /* ---- The views, and the start. ---- */
 
-const panels = new Map();
+const panels = new Map(), linkLater = calmed(writeLink, 300);
 
 /** Shows one of the views. */
 function showPanel(name) {
@@ -55,6 +55,7 @@ function showPanel(name) {
     panel.hidden = each !== name;
     if (each === name && show) show();
   }
+  linkLater();
 }
 
 /** Moves between tabs by keys. */
@@ -125,6 +126,7 @@ function fillHead() {
   id("when").hidden = !events.length;
   id("other").hidden = !id("other").querySelector("code").textContent;
   id("range").hidden = !id("range").textContent;
+  id("seal").hidden = !id("seal").querySelector("code").textContent;
   id("open").textContent = counted(unsettled.length);
   id("sums").textContent = explained();
   id("union").hidden = !data.union;
@@ -149,7 +151,8 @@ function wire() {
     frameAll();
     choose(all);
   });
-  addEventListener("beforeprint", () => print(true));
+  addEventListener("hashchange", takeLink);
+  addEventListener("beforeprint", () => { printQuestion(); print(true); });
   addEventListener("afterprint", () => print(false));
   addEventListener("resize", calmed(() => { drawTimeline(); }));
   timelinePointer();
@@ -170,6 +173,8 @@ const fillRest = panel => panel.append(...rest.map(([title, found]) => namedValu
 if (data.aside) addPanel("aside", "Set aside", data.aside.length, asidePanel);
 if (rest.length) addPanel("rest", "Rest of the log", rest.reduce((sum, [, found]) => sum + found.length, 0), fillRest);
 wire();
-update();
 showPanel("events");
+watchers.push(tellLink, linkLater);
+update();
+takeLink();
 document.documentElement.dataset.ready = String(Math.round(performance.now()));

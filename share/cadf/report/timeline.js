@@ -179,12 +179,16 @@ function zoom() {
   update({filters: false});
 }
 
+/** Returns the instant that a text is, in UTC; NaN if it is none. A month and a day are their beginning. */
+function timeOf(typed) {
+  const whole = typed.replace(" ", "T").replace(/^(\d{4}-\d\d)$/, "$1-01").replace(/^(\d{4}-\d\d-\d\d)$/, "$1T00:00"), time = Date.parse(whole.replace(/Z?$/, "Z"));
+  return /^\d{4}-\d\d/.test(typed) && stamp(time).startsWith(typed.slice(0, 10)) ? time : NaN;   // a browser takes "5", and a 30th of February
+}
+
 /** Reads the borders of the range as they are typed. */
 function typedRange() {
   const read = (name, none) => {
-    const typed = id(name).value.trim();
-    const time = Date.parse(/^\d{4}-\d\d-\d\d$/.test(typed) ? typed + "T00:00Z" : typed.replace(" ", "T").replace(/Z?$/, "Z"));
-    const isTime = /^\d{4}/.test(typed) && stamp(time).startsWith(typed.slice(0, 10));   // a browser takes "5", and a 30th of February
+    const typed = id(name).value.trim(), time = timeOf(typed), isTime = !Number.isNaN(time);
     id(name).setAttribute("aria-invalid", typed !== "" && !isTime);
     return isTime ? time : none;
   };
