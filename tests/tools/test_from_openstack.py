@@ -20,6 +20,7 @@ import stat
 import subprocess
 import tempfile
 import threading
+import time
 
 import pytest
 
@@ -600,6 +601,77 @@ def test_equal_lines_are_set_aside_once():
     done = read(first + second + first + zeros + second + zeros + b"y\n")
     assert done.counts == counts(0, 2005) and [entry["line"] for entry in done.entries] == [1, 1001, 2002, 2005]
     assert base64.b64decode(done.entries[2]["base64"]) == zeros[:-1] and os.stat("aside").st_size < len(zeros) * 3 // 2
+
+
+def short_lines(count):
+    """Lines that are too short for an event, of four faults, and each other than the others; and the fault that each has first."""
+    kinds = [(b"x%d", "not JSON, and no line of a log"), (b"[%d]", "not an object"), (b'{"a":%d}', "id"), (b"\xff%d", "not UTF-8")]
+    return [(kind % number, fault) for number, (kind, fault) in zip(range(count), kinds * count)]
+
+
+def test_short_lines_are_set_aside_many_in_an_entry(tool=TOOL):
+    """After a hundred entries, with all that they were; so what is set aside of them, and its entries, are about as long as they. Mended, they are read one by one."""
+    lines = short_lines(20000)
+    put("many", b"".join(line + b"\n" for line, _ in lines))
+    for name in glob.glob("aside*"):
+        os.unlink(name)
+    assert ended(tool, ["--log", "g", "--set-aside", "aside", "many"]).error.decode().splitlines()[-1] == counts(aside=20000)
+    entries, found = [json.loads(line) for line in open("aside", "rb")], {}
+    for entry in entries[100:]:
+        data = base64.b64decode(entry["base64"]) if "base64" in entry else entry["text"].encode()
+        own = data.split(b"\n")[:-1]
+        assert entry["line"] == entry["lines"][0] and len(own) == len(entry["lines"]) and len(entry["faults"]) == 1
+        found.update((place, (line, entry["faults"][0])) for place, line in zip(entry["lines"], own))
+    assert found == dict(enumerate(lines[100:], 101)) and [entry["line"] for entry in entries[:100]] == list(range(1, 101))
+    assert len(entries) < 120 and os.stat("aside").st_size < 3 * os.stat("many").st_size
+    kept = {"file": "many", "line": 7, "faults": ["id"], "lines": [7, 8], "text": json.dumps(event(id="a")) + "\n" + json.dumps(event(id="b")) + "\n"}
+    put("mended", json.dumps(kept).encode())
+    assert [each["id"] for each in json.loads(ended(tool, ["--log", "g", "mended"]).output)["events"]] == ["a", "b"]
+
+
+def test_short_lines_of_many_faults_are_held_no_longer_than_others():
+    """So is what waits for its entry: of a hundred faults at most."""
+    program = loaded(TOOL)
+    aside = program.SetAside("aside")
+    for number in range(1000):
+        aside.add_short(("a", number), "fault %d" % number, b"x")
+        assert len(aside.batches) <= program.MOST_BATCHES
+    aside.sync()
+    assert [json.loads(line)["faults"] for line in open("aside", "rb")] == [["fault %d" % number] for number in range(1000)]
+
+
+def seconds_of(*lines):
+    """The processor time of what is made of lines, of a program that runs already; for a byte, and the best of three."""
+    program, found = loaded(TOOL), []
+    data = b"".join(line + b"\n" for line in lines)
+    put("timed", data)
+    for _ in range(3):
+        for name in glob.glob("made*") + glob.glob("aside"):
+            os.unlink(name)
+        begun = time.process_time()
+        run = program.Run(list(program.RULES), program.Documents("g", "made", 2 ** 30), program.SetAside("aside"), 2 ** 24, False)
+        run.read("timed")
+        run.aside.sync()
+        found.append(time.process_time() - begun)
+    return min(found) / len(data)
+
+
+def test_lines_that_are_refused_cost_at_most_20_times_an_event():
+    """By processor time for a byte, beside messages of 1,200 bytes with an event; measured are 12 to 16 times."""
+    member = {"addresses": [{"url": "http://%s.example:8774/v2.1" % name, "name": name} for name in ("admin", "private", "public")], "path": "/v2.1/" + "p" * 300}
+    ordinary = seconds_of(*(json.dumps(notification(event(id="e%d" % number, reporterchain=[STEP], **member))).encode() for number in range(2000)))
+    dear = {kind: seconds_of(*(kind % number for number in range(20000))) / ordinary for kind in (b"x%d", b'{"a":%d}', b"[%d]", b"[{},%d,{},{},{},{}]", b"\xff%d")}
+    assert max(dear.values()) <= 20, dear
+
+
+@pytest.mark.parametrize("right, wrong", [
+    ("self.aside.add_short(origin, refused[0].faults[0], data)", "self.refuse(origin, refused, len(data))"),
+    ("places.append(place)", "places[:] = [place]"),
+    ("for line in data.split(b\"\\n\") if line for item in self.items(line)]", "for line in data.split(b\"\\n\")[:1] for item in self.items(line)]"),
+    ("        self.add_batches()\n        self.flush()", "        self.flush()")])
+def test_short_lines_that_are_set_aside_wrong_are_found(right, wrong):
+    with pytest.raises(AssertionError):
+        test_short_lines_are_set_aside_many_in_an_entry(wrong_copy(right, wrong))
 
 
 SET_ASIDE = {"event": {}, "document": {"events": [{}]}, "text": "{}", "base64": "e30="}
