@@ -110,9 +110,9 @@ class SpoolFolder:
     # What waits
 
     def waiting(self):
-        """The files in set-aside/ with what the system says of them, by their names; also why a file is there."""
+        """What is in set-aside/, also links and the like, with what the system says of it, by its name; also why a file is there."""
         found = {name: os.lstat(name, dir_fd=self.aside) for name in sorted(os.listdir(self.aside)) if not name.startswith(".")}
-        return {name: each for name, each in found.items() if stat.S_ISREG(each.st_mode)}
+        return {name: each for name, each in found.items() if not stat.S_ISDIR(each.st_mode)}
 
     def files(self):
         """The names of these files but those that say why another is there."""

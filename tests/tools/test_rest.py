@@ -304,6 +304,42 @@ def test_names_on_a_terminal(place):
     assert done.status == 5 and name.isprintable() and cause.isprintable() and name.startswith("a\\") and "[2J\\u202e" in name
 
 
+def odd_files(place):
+    """Has a stranger send what nobody can read or open as a file, beside an honest file that is refused."""
+    spool = place.path / "spool"
+    spool.mkdir(mode=0o700)
+    os.mkfifo(spool / "fifo.json")
+    os.symlink("/etc/passwd", spool / "link.json")
+    (spool / "half.json").write_text("{")
+    assert place.spool().status == 1
+    (spool / "set-aside" / "secret.json").write_text("x")
+    os.chmod(spool / "set-aside" / "secret.json", 0)
+
+
+def test_what_can_t_be_read_hides_no_other_file(place):
+    """It is listed, and dropped as any."""
+    odd_files(place)
+    os.symlink("nowhere", place.path / "spool" / "set-aside" / "secret2.json")  # whom nobody, and root neither, can read
+    rows = place.lines()
+    assert {name: rows.get(name, [None] * 5)[1] for name in ("fifo.json", "link.json", "half.json", "secret2.json")} == {
+        "fifo.json": "unread", "link.json": "unread", "half.json": "0 lines", "secret2.json": "unread"}
+    assert rows["link.json"][4] == "not a regular file: put a copy of the file itself there" and rows["half.json"][0] == rows["link.json"][0]
+    done = place.admit("--lines", "spool", "*")
+    assert done.status == 3 and b"{" in done.output and b"fifo.json: " in done.error and b"Traceback" not in done.error, done
+    assert place.admit("--drop", "spool", "*") == (0, b"", b"") and place.lines() == {}
+    assert sorted(os.listdir(place.path / "spool" / "set-aside")) == [".senders"]
+
+
+def test_a_star_in_a_name_stands_for_no_other_file(place):
+    """What is set aside has another name then: by its own a person would drop everybody's files."""
+    spool = place.path / "spool"
+    spool.mkdir(mode=0o700)
+    for name in ("*", "a*.json", "half.json"):
+        (spool / name).write_text("{")
+    place.spool()
+    assert sorted(place.lines()) == ["half.json", "odd-name.json", "odd-name.jsonl"]
+
+
 # ---- Copies that do wrong
 
 @pytest.mark.parametrize("check, texts", [
@@ -321,6 +357,9 @@ def test_names_on_a_terminal(place):
     (test_a_sender_takes_no_name_of_what_waits, ["or name.startswith(WAITS):", ":"]),
     (test_what_waits_waits_once, ["return done.status == DONE\n\n    def empty", "return True\n\n    def empty"]),
     (test_a_bus_fills_no_disk_by_what_is_refused, ["        self.is_full = bool(beyond)\n", ""]),
+    (test_what_can_t_be_read_hides_no_other_file, ["if not stat.S_ISDIR(each.st_mode)}", "if stat.S_ISREG(each.st_mode)}"]),
+    (test_what_can_t_be_read_hides_no_other_file, ["        except (Fault, OSError) as error:", "        except Fault as error:"]),
+    (test_a_star_in_a_name_stands_for_no_other_file, [" and \"*\" not in name", ""]),
     (test_more_waits_than_may, ["if waiting > self.budget.waiting:", "if False:"]),
     (test_admit, ["if is_there(name, spool.folder):", "if False:"]),
     (test_admit_into_a_site_that_refuses, ["        if child.returncode:\n            raise Fault(said, child", "        if False:\n            raise Fault(said, child"]),
