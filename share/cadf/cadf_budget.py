@@ -5,6 +5,9 @@ What is here is called in a process that has just been started, before it is the
 import resource
 import struct
 
+import cadf_toolkit
+from cadf_toolkit import OUT_OF_MEMORY, whole_number
+
 try:
     import ctypes
     LIBC = ctypes.CDLL(None)
@@ -13,6 +16,7 @@ except (ImportError, MemoryError):  # as where nothing that is written may run
 
 SECONDS, BYTES = 300, 2 ** 32  # of processor time of a program that reads a file, and of its address space
 OF_SITE = 4  # times a file's time for what reads the site's file too
+YEAR = 366 * 86400  # seconds
 # Landlock's calls, with the same numbers on each processor. It can forbid to write, make and remove files, and to cut them.
 MAKE_RULES, ADD_RULE, OBEY_RULES, NO_NEW_PRIVILEGES = 444, 445, 446, 38
 CHANGES, OF_FILES, CUT = 0x1ff2, 0x122, 1 << 14  # of all kinds; to write, make and remove regular files; to cut them
@@ -42,3 +46,22 @@ def change_only(folder):
     if is_made:
         LIBC.prctl(NO_NEW_PRIVILEGES, 1, 0, 0, 0)
         LIBC.syscall(OBEY_RULES, rules, 0)
+
+
+# ---- A tool's own programs
+
+def add_budget(parser):
+    """Adds the options of what each `cadf` may spend that the tool starts."""
+    parser.add_argument("--time", metavar="SECONDS", type=whole_number(1, YEAR), default=OF_SITE * SECONDS,
+                        help="the processor time of a program that reads facts, and the site (default: %d)" % (OF_SITE * SECONDS))
+    parser.add_argument("--memory", metavar="BYTES", type=whole_number(1, 2 ** 50), default=BYTES,
+                        help="the address space of such a program (default: %d)" % BYTES)
+
+
+def keep_to(options):
+    """Holds each `cadf` that the tool starts from here on to that budget. It changes no file."""
+    def begin():
+        confine(options.time, options.memory)
+        change_only(None)
+
+    cadf_toolkit.CONFINE, cadf_toolkit.ADVICE[OUT_OF_MEMORY] = begin, "have more of it, or give more by --memory"

@@ -20,6 +20,7 @@ from tests.tools.faulty import calls_of
 from tests.tools.odd_logs import EVENT
 
 TOOLS = os.path.join(TOP, "tools")
+sys.path.insert(0, os.path.join(TOP, "share", "cadf"))
 CALLS = "os.open os.lstat os.link os.rename os.unlink os.fchmod os.fsync fcntl.flock"
 NO_NAME = "cadf-take: log name: an identifier has 1 to 1,024 bytes of UTF-8, and no control character\n"
 NO_LOG = "cadf-take: event.json: no log named: an event by itself names none: give a file that does, or --log ID if the tool takes it\n"
@@ -105,6 +106,38 @@ class Folder:
 def folder(cadf, tmp_path, monkeypatch):
     monkeypatch.chdir(tmp_path)
     return Folder(cadf)
+
+
+# ---- What its programs may do
+
+ODD = """#!/bin/sh
+(echo x >made; echo x >>s.cadf; rm -f one.json) 2>/dev/null
+%s
+exec "$BUILT" "$@"
+"""
+LIMITS = {"memory": ("--memory=%d" % 2 ** 30, "ulimit -v | grep -qx 1048576 || exit 1"), "time": ("--time=77", "ulimit -t | grep -qx 77 || exit 1"),
+          "memory by default": ("--", "ulimit -v | grep -qx 4194304 || exit 1"), "time by default": ("--", "ulimit -t | grep -qx 1200 || exit 1")}
+
+
+@pytest.mark.parametrize("limit", LIMITS)
+def test_budget_of_a_take(folder, limit):
+    """A program that reads facts and the site has the time and the memory that the page says, and where there is Landlock it changes no file."""
+    from cadf_budget import LIBC, MAKE_RULES
+    word, check = LIMITS[limit]
+    put("odd", ODD % check, 0o755)
+    folder.site(site=folder.one)
+    done = folder.take(word, "s.cadf", "two.json", env={"CADF": os.path.abspath("odd"), "BUILT": folder.cadf})
+    if LIBC is None or LIBC.syscall(MAKE_RULES, None, 0, 1) < 1:
+        pytest.skip("Landlock: this kernel has none")
+    ends(done, 0)
+    leaves(folder.both, before=folder.one)
+    assert held("made") is None and held("one.json") is not None
+
+
+@pytest.mark.parametrize("right, wrong", [("        change_only(None)\n", ""), ("confine(options.time, options.memory)\n        change", "confine(2 ** 40, 2 ** 50)\n        change")])
+def test_takes_without_a_budget_are_caught(folder, tmp_path, right, wrong):
+    with pytest.raises(AssertionError):
+        test_budget_of_a_take(Folder(folder.cadf, copied(str(tmp_path / "copy"), right, wrong)), "memory")
 
 
 # ---- What is taken
