@@ -29,18 +29,21 @@ pub use Rattle.hex.proofs.HexLemmas.{decode_of-ok, decode_sized-encode_lower, de
 pub use Rattle.hex.specs.Hex.{decode_sized, encode_lower, lower_digits}
 unfoldable pub use Rattle.hex.specs.Hex.{encode_with}
 pub use Rattle.hex.specs.declared.error.FromHexError.{FromHexError}
+pub use Rattle.sha2.proofs.Facts256.{length-sha256}
 pub use Rattle.sha2.specs.Hashers.{Holds256}
-pub use Rattle.sha2.specs.Sha256.{sha256}
+pub use Rattle.sha2.specs.Sha256.{final_hash, initial_hash_256}
+unfoldable pub use Rattle.sha2.specs.Sha256.{digest_bytes, sha256}
 pub use Rattle.sha2.specs.declared.Sha256.{Sha256}
-pub use Rattle.std.proofs.Common.{Bool, Err, List, None, Ok, Option, Result, Some, [], ap, append-nil, append_assoc, arith, cond, false, length, map, refl, subst, suc, sym, true, true≢false, zero, ℕ, ◌++◌, ◌+◌, ◌<◌, ◌∙◌, ◌∷◌, ◌≡◌}
-pub use Rattle.std.proofs.lemmas.Grind.{flat_map-append}
+pub use Rattle.std.proofs.Common.{Bool, Err, List, None, Ok, Option, Result, Some, [], ap, append-nil, append_assoc, arith, cond, false, length, map, refl, subst, suc, sym, true, true≢false, zero, ℕ, ◌++◌, ◌+◌, ◌/◌, ◌<◌, ◌∙◌, ◌∷◌, ◌≡◌}
+pub use Rattle.std.proofs.lemmas.Grind.{common_steps, flat_map-append}
 pub use Rattle.std.proofs.lemmas.Result.{err_from_is_err_and}
 pub use Rattle.std.proofs.lemmas.Slice.Eq.{bytes_eq-Decides}
+pub use Rattle.std.specs.Int.{byte_at, bytes_high_first}
 pub use Rattle.std.specs.Io.KnownBytes.{Appends}
 pub use Rattle.std.specs.List.{AllByRecursion, last_or, list_any}
 unfoldable pub use Rattle.std.specs.List.Sorted.{IsStrictlySortedBy}
 pub use Rattle.std.specs.Ordering.{is_lt}
-pub use Rattle.std.specs.Prelude.{nat_eq, slice_index, unwrap_or, ◌&&◌, ◌/◌, ◌||◌}
+pub use Rattle.std.specs.Prelude.{nat_eq, slice_index, unwrap_or, ◌&&◌, ◌||◌}
 pub use Rattle.std.specs.Str.{bytes_eq}
 pub use Rattle.std.specs.declared.cmp.Ordering.{Ordering}
 pub use Rattle.std.specs.declared.cmp.Ordering.TheVariants.{Equal, Greater, Less}

@@ -3,7 +3,7 @@ pub use Rattle.cadf_event.proofs.KnownParts.{all_append}
 pub use Rattle.cadf_event.proofs.LogNameLemmas.{both_unbroken, unbroken_quoted}
 pub use Rattle.cadf_event.specs.Known.{IsNameText}
 pub use Rattle.cadf_event.specs.LogName.{is_name_text, is_unbroken}
-pub use Rattle.cadf_inventory.proofs.DigestLines.{digest-again, digest-only, unbroken_digest_of}
+pub use Rattle.cadf_inventory.proofs.DigestLines.{digest-again, digest-only, no_digest, sha_digest, unbroken_digest_of}
 pub use Rattle.cadf_inventory.proofs.InventoryVerdictLemmas.{each_digest}
 pub use Rattle.cadf_inventory.proofs.RisingLists.{rising_set, set_again}
 pub use Rattle.cadf_inventory.specs.InventoryVerdict.{digest_of}
@@ -21,11 +21,15 @@ pub use Rattle.cadf_line.specs.Digest.{IsDigest, atom_digest}
 pub use Rattle.cadf_line.specs.Missing.{Digests, digests_of}
 pub use Rattle.cadf_linefile.proofs.BodyLines.{AreAfter, map_more}
 pub use Rattle.cadf_linefile.proofs.LinesLemmas.{and_true, are_unbroken, both}
+pub use Rattle.cadf_linefile.proofs.MarkedLines.{begins_with, chosen, prefixed, shape_none, there}
 pub use Rattle.cadf_linefile.proofs.ModelLemmas.{Ends, Follows, IsModelKind, Plain, accepts-models, lines_of, models-tell, name_is}
-pub use Rattle.cadf_linefile.proofs.UnbrokenLines.{unbroken_digest}
+pub use Rattle.cadf_linefile.proofs.NumberLemmas.{after_is, cut_cases, decimal_unblank, first_is, number-again, number-only}
+pub use Rattle.cadf_linefile.proofs.UnbrokenLines.{decimal_unbroken, unbroken_digest}
 pub use Rattle.cadf_linefile.proofs.VerdictLemmas.{good_log}
 pub use Rattle.cadf_linefile.proofs.WritingLemmas.{on_ok}
+pub use Rattle.cadf_linefile.specs.LineGrammar.{shape_unless}
 pub use Rattle.cadf_linefile.specs.ModelKind.{AcceptsModels}
+pub use Rattle.cadf_linefile.specs.Numbers.{first_word, number_in, words_after}
 pub use Rattle.cadf_linefile.specs.Verdict.{log_line, with_digest_line}
 pub use Rattle.cadf_linefile.specs.declared.fault.Cause.TheVariants.{Order, Shape}
 pub use Rattle.cadf_linefile.specs.laws.Prefixes.{front_after, front_more}
@@ -47,13 +51,7 @@ pub use Rattle.cadf_seal.specs.declared.proof.Facts.{Facts}
 pub use Rattle.cadf_seal.specs.declared.telling.Repeated.{Repeated}
 pub use Rattle.cadf_seal.specs.declared.tree.Leaf.{Leaf}
 pub use Rattle.cadf_seal.specs.declared.verify.VerifyFault.{VerifyFault}
-pub use Rattle.cadf_set.specs.Inventory.{AreDigests, InventoryModel}
-pub use Rattle.cadf_sketch.proofs.LineLemmas.{begins_with, chosen, no_digest, prefixed}
-pub use Rattle.cadf_sketch.proofs.NumberLemmas.{after_is, cut_cases, decimal_unblank, first_is, number-again, number-only}
-pub use Rattle.cadf_sketch.proofs.SketchFileLemmas.{decimal_unbroken, shape_none, there}
-pub use Rattle.cadf_sketch.proofs.WholeLemmas.{sha_digest}
-pub use Rattle.cadf_sketch.specs.Answers.{inventory_of}
-pub use Rattle.cadf_sketch.specs.SketchVerdict.{first_word, number_in, shape_unless, words_after}
+pub use Rattle.cadf_set.specs.Inventory.{AreDigests, InventoryModel, inventory_of}
 pub use Rattle.hex.specs.Hex.{encode_lower}
 pub use Rattle.sha2.proofs.Facts256.{length-sha256}
 pub use Rattle.sha2.specs.Sha256.{sha256}

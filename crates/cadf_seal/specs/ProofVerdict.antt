@@ -11,10 +11,10 @@ use Rattle.cadf_join.specs.Contents.{Text, text_cmp}
 use Rattle.cadf_linefile.specs.declared.fault.Cause.{Cause}
 use Rattle.cadf_linefile.specs.declared.fault.Cause.TheVariants.{Shape, Order}
 use Rattle.cadf_linefile.specs.declared.fault.FileFault.{FileFault}
-use Rattle.cadf_linefile.specs.LineGrammar.{LineGrammar}
+use Rattle.cadf_linefile.specs.LineGrammar.{LineGrammar, shape_unless}
+use Rattle.cadf_linefile.specs.Numbers.{number_in, first_word, words_after}
 use Rattle.cadf_linefile.specs.Verdict.{log_in_line}
 use Rattle.cadf_inventory.specs.InventoryVerdict.{digest_of}
-use Rattle.cadf_sketch.specs.SketchVerdict.{number_in, first_word, words_after, shape_unless}
 use Rattle.cadf_linefile.specs.ModelKind.{ModelKind, grammar_of, verdict_of}
 use Rattle.cadf_seal.specs.SealVerdict.{sealed_count}
 use Rattle.cadf_seal.specs.ProofFile.{ProofModel, proof_header, proof_body}

@@ -8,10 +8,10 @@ use Rattle.cadf_join.specs.Contents.{Text}
 use Rattle.cadf_linefile.specs.declared.fault.Cause.{Cause}
 use Rattle.cadf_linefile.specs.declared.fault.Cause.TheVariants.{Shape}
 use Rattle.cadf_linefile.specs.declared.fault.FileFault.{FileFault}
-use Rattle.cadf_linefile.specs.LineGrammar.{LineGrammar}
+use Rattle.cadf_linefile.specs.LineGrammar.{LineGrammar, shape_unless}
+use Rattle.cadf_linefile.specs.Numbers.{number_in}
 use Rattle.cadf_linefile.specs.Verdict.{log_in_line}
 use Rattle.cadf_inventory.specs.InventoryVerdict.{digest_of}
-use Rattle.cadf_sketch.specs.SketchVerdict.{number_in, shape_unless}
 use Rattle.cadf_linefile.specs.ModelKind.{ModelKind, grammar_of, verdict_of}
 use Rattle.cadf_seal.specs.SealFile.{SealModel, seal_header, seal_body}
 

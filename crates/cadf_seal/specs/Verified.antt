@@ -27,9 +27,8 @@ use Rattle.cadf_join.specs.Sets.{rising}
 use Rattle.cadf_line.specs.Atoms.{is_text, ruling_letter}
 use Rattle.cadf_line.specs.Digest.{atom_digest}
 use Rattle.cadf_line.specs.Missing.{digests_of}
-use Rattle.cadf_set.specs.Inventory.{InventoryModel}
+use Rattle.cadf_set.specs.Inventory.{InventoryModel, inventory_of}
 use Rattle.cadf_set.specs.Replica.{ReplicaModel}
-use Rattle.cadf_sketch.specs.Answers.{inventory_of}
 use Rattle.cadf_seal.specs.Tree.{root, hashed, TextsDoNotCollide}
 use Rattle.cadf_seal.specs.SealFile.{SealModel, seal_of}
 use Rattle.cadf_seal.specs.ProofFile.{ProofModel, proof_of, IsProof}

@@ -13,8 +13,7 @@ use crate::tree::Leaf;
 use cadf_event::Name;
 use cadf_inventory::digest_of;
 use cadf_json::Memory;
-use cadf_linefile::{Cause, LineFault, ModelFile};
-use cadf_sketch::{cut_at_blank, number_in};
+use cadf_linefile::{Cause, LineFault, ModelFile, cut_at_blank, number_in};
 use std::alloc::Global;
 
 /// The values decoded from the lines after the log line, so far.

@@ -9,8 +9,7 @@ use crate::seal::Seal;
 use cadf_event::Name;
 use cadf_inventory::digest_of;
 use cadf_json::Memory;
-use cadf_linefile::{Cause, LineFault, ModelFile};
-use cadf_sketch::number_in;
+use cadf_linefile::{Cause, LineFault, ModelFile, number_in};
 use std::alloc::Global;
 
 /// The values decoded from the lines after the log line, so far.

@@ -2,7 +2,7 @@
 pub use Rattle.cadf_event.proofs.LogNameLemmas.{both_unbroken, unbroken_quoted}
 pub use Rattle.cadf_event.specs.Known.{IsNameText}
 pub use Rattle.cadf_event.specs.LogName.{is_name_text, is_unbroken}
-pub use Rattle.cadf_inventory.proofs.DigestLines.{digest-again, digest-only, plain_digest, spelled-again, spelled-only, unbroken_digest_of}
+pub use Rattle.cadf_inventory.proofs.DigestLines.{append_fits, digest-again, digest-only, high_fits, plain_digest, sha_digest, spelled-again, spelled-only, unbroken_digest_of}
 pub use Rattle.cadf_inventory.proofs.InventoryVerdictLemmas.{each_digest, inventory-file-tells, inventory_is}
 pub use Rattle.cadf_inventory.proofs.RisingLists.{digests_push}
 pub use Rattle.cadf_inventory.specs.InventoryFile.{DoNotCollide, IsInventory, inventory_body, inventory_file, inventory_text}
@@ -19,13 +19,17 @@ pub use Rattle.cadf_line.specs.Digest.{IsDigest, atom_digest}
 pub use Rattle.cadf_line.specs.Missing.{Digests, missing_by}
 pub use Rattle.cadf_linefile.proofs.BodyLines.{AreAfter}
 pub use Rattle.cadf_linefile.proofs.LinesLemmas.{and_true, are_unbroken, both}
+pub use Rattle.cadf_linefile.proofs.MarkedLines.{begins_with, chosen, prefixed, shape_none, there}
 pub use Rattle.cadf_linefile.proofs.ModelLemmas.{Ends, Follows, IsModelKind, Plain, accepts-models, lines_of, models-tell, name_is}
-pub use Rattle.cadf_linefile.proofs.UnbrokenLines.{unbroken_digest}
+pub use Rattle.cadf_linefile.proofs.NumberLemmas.{after_is, cut_cases, decimal_unblank, first_is, number-again, number-only, number_of_none}
+pub use Rattle.cadf_linefile.proofs.UnbrokenLines.{decimal_unbroken, unbroken_digest}
 pub use Rattle.cadf_linefile.proofs.VerdictLemmas.{good_log}
 pub use Rattle.cadf_linefile.proofs.WritingLemmas.{on_ok}
 pub use Rattle.cadf_linefile.specs.Answers.{CauseIs}
+pub use Rattle.cadf_linefile.specs.LineGrammar.{shape_unless}
 pub use Rattle.cadf_linefile.specs.Lines.{text_of_lines, with_line_feed}
 pub use Rattle.cadf_linefile.specs.ModelKind.{AcceptsModels}
+pub use Rattle.cadf_linefile.specs.Numbers.{first_word, number_in, words_after}
 pub use Rattle.cadf_linefile.specs.Verdict.{begins_digest, digest_line, log_line, with_digest_line}
 pub use Rattle.cadf_set.proofs.Inventories.{AreDigests-listed}
 pub use Rattle.cadf_set.specs.Inventory.{AreDigests, InventoryModel}
@@ -39,8 +43,8 @@ pub use Rattle.cadf_sketch.specs.Peeling.{ArePlaces, Awaits, HasNoLone, Peels, m
 pub use Rattle.cadf_sketch.specs.Refusals.{HasTooFewCells, differing}
 pub use Rattle.cadf_sketch.specs.SketchFile.{AreWords64, HasParts, IsCell, IsHead, IsSketch, IsTally, SketchFileIsInjective, cell_line, cell_lines, counts_line, head_line, head_of, sketch_body, sketch_header, spelled}
 pub use Rattle.cadf_sketch.specs.SketchLines.{AreCellsOf, AreTold, IsCellPut, told_lines}
-pub use Rattle.cadf_sketch.specs.SketchVerdict.{cause_after, cause_of_cell, cell_of_bytes, cells_of_head, first_word, head_in, headed, is_whole, laid_out, numbers_in, put_before, shape_unless, sketch_kind, sketch_model_in, sketch_of_parts, tally_in, tally_in_numbers, words_after}
-unfoldable pub use Rattle.cadf_sketch.specs.SketchVerdict.{cell_in, counts_in_words, head_in_words, number_in}
+pub use Rattle.cadf_sketch.specs.SketchVerdict.{cause_after, cause_of_cell, cell_of_bytes, cells_of_head, head_in, headed, is_whole, laid_out, numbers_in, put_before, sketch_kind, sketch_model_in, sketch_of_parts, tally_in, tally_in_numbers}
+unfoldable pub use Rattle.cadf_sketch.specs.SketchVerdict.{cell_in, counts_in_words, head_in_words}
 pub use Rattle.cadf_sketch.specs.Sketches.{SketchModel, asked}
 unfoldable pub use Rattle.cadf_sketch.specs.Sketches.{cells_of, sketch_of}
 pub use Rattle.cadf_sketch.specs.Tallies.{cells_to_ask, has_bit, squares, tallied_all, with_bits}
@@ -50,39 +54,27 @@ pub use Rattle.cadf_sketch.specs.declared.layout.Head.{Head}
 pub use Rattle.cadf_sketch.specs.declared.tally.Tally.{Tally}
 pub use Rattle.hex.proofs.HexLemmas.{length-encode_with}
 pub use Rattle.hex.specs.Hex.{decode_sized, encode_lower, lower_digits}
-pub use Rattle.memchr.specs.Find.{IsFirstByte, is_byte}
-pub use Rattle.sha2.proofs.Facts256.{length-sha256}
-pub use Rattle.sha2.specs.Sha256.{final_hash, initial_hash_256}
-unfoldable pub use Rattle.sha2.specs.Sha256.{digest_bytes, sha256}
-pub use Rattle.std.proofs.Common.{Bool, Err, IfSome, List, None, Ok, Option, Result, Some, [], add_assoc, ap, append-nil, arith, below_more, codes, cond, drop, false, get_or, inl, inr, length, length-drop, map, refl, replicate, rules, set, slice_index_or, slice_range, slice_set, subst, suc, sym, take, true, vec_len, zero, zero-add, ℕ, ◌%◌, ◌*◌, ◌++◌, ◌+◌, ◌-◌, ◌/◌, ◌<◌, ◌^◌, ◌∙◌, ◌∷◌, ◌≡◌, ◌≤◌, ◌⊎◌}
-pub use Rattle.std.proofs.Math.ListN.{drop_of_length-le}
+pub use Rattle.sha2.specs.Sha256.{sha256}
+pub use Rattle.std.proofs.Common.{Bool, IfSome, List, None, Option, Some, [], add_assoc, ap, append-nil, arith, below_more, codes, cond, drop, false, get_or, inl, inr, length, length-drop, map, refl, replicate, rules, set, slice_index_or, slice_range, slice_set, subst, suc, sym, take, true, vec_len, zero, zero-add, ℕ, ◌%◌, ◌*◌, ◌++◌, ◌+◌, ◌-◌, ◌/◌, ◌<◌, ◌^◌, ◌∙◌, ◌∷◌, ◌≡◌, ◌≤◌, ◌⊎◌}
 pub use Rattle.std.proofs.Math.Nat.{mod-add-mod}
-pub use Rattle.std.proofs.Math.Seq.{drop-append-add, drop-append_seam, take-append_seam}
-pub use Rattle.std.proofs.lemmas.Bool.{eqb-true, lt-ltb, ltb-false, ltb-true}
+pub use Rattle.std.proofs.Math.Seq.{drop-append_seam, take-append_seam}
+pub use Rattle.std.proofs.lemmas.Bool.{eqb-true, lt-ltb}
 pub use Rattle.std.proofs.lemmas.Bool.Decides.{nat_tests}
-pub use Rattle.std.proofs.lemmas.Fmt.{IsAscii-decimal, decimal_nonempty, digits_decimal, digits_value-decimal, parse-decimal}
 pub use Rattle.std.proofs.lemmas.Grind.{common_steps}
 pub use Rattle.std.proofs.lemmas.List.{ext_get_or, get_or-map, get_or-replicate, get_or-set_other, get_or-set_same, length-append, length-map, length-replicate, length-set, length-take-le, take-append-drop, take_all, take_more_set, with_items_is}
-pub use Rattle.std.proofs.lemmas.List.Folds.{list_any-append, list_any_at}
+pub use Rattle.std.proofs.lemmas.List.Folds.{list_any-append}
 pub use Rattle.std.proofs.lemmas.List.Recursion.{is_count_by}
-pub use Rattle.std.proofs.lemmas.List.Sums.{passes_at_first, position_or_len_is, split_at_first}
 pub use Rattle.std.proofs.lemmas.Nat.{be_bytes_8, from_be_bytes-to_be_bytes_8, mod_below, xor_comm, xor_lt, xor_of_8}
 pub use Rattle.std.proofs.lemmas.Slice.Eq.{bytes_eq-Decides}
-pub use Rattle.std.proofs.lemmas.Str.{IsUtf8-from_ascii}
-pub use Rattle.std.proofs.lemmas.Str.Parse.{IsNumeralModel, numerals_by_value, tells_digits}
 pub use Rattle.std.specs.BTreeSet.{insert_key}
-pub use Rattle.std.specs.Bool.{Decides, then_some}
 pub use Rattle.std.specs.Cmp.{tied_itself}
 pub use Rattle.std.specs.FinSet.{contains-remove, remove}
-pub use Rattle.std.specs.Int.{IsInRange, byte_at, bytes_high_first, from_be_bytes, to_be_bytes, w64}
-pub use Rattle.std.specs.List.{AllByRecursion, filter, filter_map, list_any, position_or_len, starts_with}
+pub use Rattle.std.specs.Int.{from_be_bytes, to_be_bytes, w64}
+pub use Rattle.std.specs.List.{AllByRecursion, filter, filter_map, list_any, starts_with}
 unfoldable pub use Rattle.std.specs.List.Sorted.{IsStrictlySortedBy}
 pub use Rattle.std.specs.Ordering.{eq_by_cmp, is_eq, match_ordering}
-pub use Rattle.std.specs.Prelude.{IfErr, IsUtf8, bit_xor, count_by, decimal, flat_map, is_some, nat_eq, nat_lt, not, option_map, slice_index, ◌&&◌, ◌==◌, ◌||◌}
-pub use Rattle.std.specs.Result.{result_ok}
+pub use Rattle.std.specs.Prelude.{IfErr, bit_xor, count_by, decimal, flat_map, is_some, nat_eq, not, option_map, slice_index, ◌&&◌, ◌||◌}
 pub use Rattle.std.specs.Simd.Lanes.{zip2}
-pub use Rattle.std.specs.Str.{bytes_eq}
-pub use Rattle.std.specs.Str.Parse.{AllDigits, ParsesUnsigned, digits_value}
 pub use Rattle.std.specs.declared.cmp.Ordering.{Ordering}
 pub use Rattle.std.specs.declared.cmp.Ordering.TheVariants.{Equal, Greater, Less}
 pub use lib.Bits.{xor_assoc, xor_self, xor_zero_r}

@@ -1,13 +1,12 @@
 pub mod AskedLemmas
 pub mod Cancelling
 pub mod CellLemmas
-pub mod CheckLemmas
 pub mod Common
+pub mod CountLemmas
 pub mod DigestLemmas
 pub mod EnoughLemmas
 pub mod FlipLemmas
 pub mod LineLemmas
-pub mod NumberLemmas
 pub mod PeelLemmas
 pub mod PendingLemmas
 pub mod SketchFileLemmas

@@ -1,22 +1,6 @@
 -- Each line of a sketch's file decodes to the values that it encodes, and to no others.
-use Rattle.cadf_sketch.proofs.Common.{common_steps, ◌≡◌, ℕ, ◌+◌, ◌*◌, ◌<◌, ◌⊎◌, inl, inr, zero, suc, List, [], ◌∷◌, ◌++◌, Bool, true, cond, length, take, drop, Option, Some, None, refl, sym, ap, ◌∙◌, subst, arith, ◌^◌, decimal, nat_eq, codes, slice_index, option_map, w64, to_be_bytes, from_be_bytes, byte_at, bytes_high_first, starts_with, bytes_eq, from_be_bytes-to_be_bytes_8, be_bytes_8, take-append-drop, length-append, length-drop, length-take-le, take-append_seam, drop-append_seam, encode_lower, decode_sized, lower_digits, length-encode_with, Text, IsDigest, if_spelled, digest_of, digest-again, digest-only, spelled-again, spelled-only, LayoutModel, IsLayout, layout_of, spelled, head_line, counts_line, cell_line, AreWords64, IsHead, IsTally, IsCell, number_in, numbers_in, first_word, words_after, laid_out, headed, head_in_words, head_in, tally_in_numbers, counts_in_words, tally_in, cell_of_bytes, cell_in, Cell, Head, Tally}
-use Rattle.cadf_sketch.proofs.NumberLemmas.{number-only, number-again, number_of_none, numbers-again, numbers-only, decimal_unblank, first_is}
-use Rattle.cadf_sketch.proofs.NumberLemmas.{after_is, cut_cases}
-
--- ---- a line that begins with a letter and a space
-
-pub begins_with : (x y : ℕ) (s : List ℕ) → starts_with nat_eq s (x ∷ y ∷ []) ≡ true → s ≡ x ∷ y ∷ drop 2 s
-begins_with x y s h = grind (arith, common_steps)
-
-module _ {A : Type 0} where
-  pub prefixed : (f : List ℕ → Option A) (x y : ℕ) (s w : List ℕ) → bytes_eq (take 2 s) (x ∷ y ∷ []) ≡ true → w ≡ drop 2 s
-      → f w ≡ cond (starts_with nat_eq s (x ∷ y ∷ [])) (f (drop 2 s)) None
-  prefixed f x y [] w h e = grind (arith, common_steps)
-  prefixed f x y (a ∷ []) w h e = grind (arith, common_steps)
-  prefixed f x y (a ∷ b ∷ s) w h e = grind (arith, common_steps)
-
-  pub chosen : (b : Bool) (o : Option A) (a : A) → cond b o None ≡ Some a → (b ≡ true) × (o ≡ Some a)
-  chosen b o a e = grind (arith, common_steps)
+use Rattle.cadf_sketch.proofs.Common.{common_steps, ◌≡◌, ℕ, ◌+◌, ◌*◌, ◌<◌, ◌⊎◌, inl, inr, List, [], ◌∷◌, ◌++◌, length, take, drop, Option, Some, None, refl, sym, ap, ◌∙◌, subst, arith, ◌^◌, decimal, nat_eq, codes, slice_index, option_map, w64, to_be_bytes, from_be_bytes, starts_with, from_be_bytes-to_be_bytes_8, be_bytes_8, take-append-drop, length-append, length-drop, length-take-le, take-append_seam, drop-append_seam, encode_lower, decode_sized, lower_digits, length-encode_with, Text, IsDigest, if_spelled, digest_of, digest-again, digest-only, spelled-again, spelled-only, LayoutModel, IsLayout, layout_of, spelled, head_line, counts_line, cell_line, AreWords64, IsHead, IsTally, IsCell, number_in, numbers_in, first_word, words_after, laid_out, headed, head_in_words, head_in, tally_in_numbers, counts_in_words, tally_in, cell_of_bytes, cell_in, Cell, Head, Tally, number-only, number-again, number_of_none, decimal_unblank, first_is, after_is, cut_cases, begins_with, chosen, high_fits, append_fits}
+use Rattle.cadf_sketch.proofs.CountLemmas.{numbers-again, numbers-only}
 
 -- ---- the line of a layout and a digest
 
@@ -104,14 +88,6 @@ cell_bytes c = c.digest ++ to_be_bytes w64 c.check
 be_size : (n : ℕ) → length (to_be_bytes w64 n) ≡ 8
 be_size n = refl
 
-byte_fits : (k n : ℕ) → byte_at k n < 256
-byte_fits k n = grind (arith, common_steps)
-
-pub high_fits : (k n i : ℕ) → slice_index (bytes_high_first k n) i < 256
-high_fits zero n i = omega arith
-high_fits (suc k) n zero = byte_fits k n
-high_fits (suc k) n (suc i) = high_fits k n i
-
 be_fits : (n i : ℕ) → slice_index (to_be_bytes w64 n) i < 256
 be_fits n i = high_fits 8 n i
 
@@ -121,9 +97,6 @@ eight a b c d e f g h at_0 at_1 at_2 at_3 at_4 at_5 at_6 at_7 = omega arith
 
 pub from_fits : (bytes : List ℕ) → ((i : ℕ) → slice_index bytes i < 256) → from_be_bytes w64 bytes < 2 ^ 64
 from_fits bytes small = eight _ _ _ _ _ _ _ _ (small 0) (small 1) (small 2) (small 3) (small 4) (small 5) (small 6) (small 7)
-
-pub append_fits : (xs ys : List ℕ) → ((i : ℕ) → slice_index xs i < 256) → ((i : ℕ) → slice_index ys i < 256) → (i : ℕ) → slice_index (xs ++ ys) i < 256
-append_fits xs ys f g i = grind (arith, common_steps)
 
 take_back : (k : ℕ) (xs ys : List ℕ) → length xs ≡ k → take k (xs ++ ys) ≡ xs
 take_back k xs ys e = ap (λ n. take n (xs ++ ys)) (sym e) ∙ take-append_seam xs ys
@@ -176,9 +149,6 @@ cell-only l c e =
 pub head_uncut : (t : List ℕ) → words_after t ≡ [] → head_in_words t ≡ None
 unfolding head_in_words
 head_uncut t e = grind (arith, common_steps)
-
-pub no_digest : digest_of [] ≡ None
-no_digest = grind (arith, common_steps)
 
 unheaded : (o : Option LayoutModel) → headed o None ≡ None
 unheaded o = grind (arith, common_steps)

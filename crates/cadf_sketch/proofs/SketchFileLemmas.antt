@@ -1,6 +1,5 @@
 -- The verdict on a sketch's file accepts exactly the files of sketches, and a file determines its sketch.
-use Rattle.cadf_sketch.proofs.Common.{common_steps, ◌≡◌, ℕ, suc, ◌+◌, ◌*◌, ◌<◌, List, [], ◌∷◌, ◌++◌, length, map, Bool, true, false, Option, Some, None, refl, sym, ap, ◌∙◌, arith, true≢false, rules, ◌==◌, ◌&&◌, ◌^◌, not, is_some, decimal, flat_map, filter_map, IsInRange, w64, to_be_bytes, AllDigits, tells_digits, digits_decimal, lt-ltb, Text, IsNameText, is_name_text, is_unbroken, unbroken_quoted, both_unbroken, log_line, with_digest_line, begins_digest, AreAfter, are_unbroken, both, and_true, AcceptsModels, Plain, lines_of, Follows, Ends, IsModelKind, accepts-models, models-tell, name_is, unbroken_digest, good_log, plain_digest, unbroken_digest_of, SketchModel, sketch_header, head_of, head_line, counts_line, cell_line, cell_lines, sketch_body, AreWords64, IsHead, IsTally, HasParts, IsSketch, SketchFileIsInjective, head_in, tally_in, cell_in, shape_unless, cells_of_head, sketch_of_parts, sketch_model_in, sketch_kind, Cell, Head, Tally}
-use Rattle.cadf_sketch.proofs.NumberLemmas.{own}
+use Rattle.cadf_sketch.proofs.Common.{common_steps, ◌≡◌, ℕ, suc, ◌+◌, ◌*◌, List, [], ◌∷◌, ◌++◌, length, map, true, false, Option, Some, None, refl, sym, ap, ◌∙◌, arith, true≢false, rules, is_some, decimal, flat_map, filter_map, w64, to_be_bytes, lt-ltb, Text, IsNameText, is_name_text, is_unbroken, unbroken_quoted, both_unbroken, log_line, with_digest_line, begins_digest, AreAfter, are_unbroken, both, and_true, AcceptsModels, Plain, lines_of, Follows, Ends, IsModelKind, accepts-models, models-tell, name_is, unbroken_digest, good_log, plain_digest, unbroken_digest_of, SketchModel, sketch_header, head_of, head_line, counts_line, cell_line, cell_lines, sketch_body, AreWords64, IsHead, IsTally, HasParts, IsSketch, SketchFileIsInjective, head_in, tally_in, cell_in, shape_unless, cells_of_head, sketch_of_parts, sketch_model_in, sketch_kind, Cell, Head, Tally, shape_none, there, decimal_unbroken}
 use Rattle.cadf_sketch.proofs.LineLemmas.{head-again, head-only, tally-again, tally-only, cell-again, cell-only}
 use Rattle.cadf_sketch.proofs.WholeLemmas.{AreCells}
 
@@ -8,12 +7,6 @@ abbrev After : List Plain → List Plain → Type 0
 After before xs = AreAfter (Follows sketch_kind) (Ends sketch_kind) before xs
 
 -- ---- such lines are those of a sketch
-
-pub shape_none : (b : Bool) → shape_unless b ≡ None → b ≡ true
-shape_none b e = grind (arith, common_steps)
-
-pub there : {A : Type 0} (o : Option A) → is_some o ≡ true → (a : A) × (o ≡ Some a)
-there o e = grind (arith, common_steps)
 
 lines_more : (cs : List Plain) (z : Plain) → length (lines_of (cs ++ z ∷ [])) ≡ suc (length (lines_of cs))
 lines_more cs z = grind (arith, common_steps)
@@ -116,21 +109,6 @@ plains_follow s is =
     none_plus n = omega arith
 
 -- ---- no line contains a line feed
-
-digits_unbroken : (ds : List ℕ) → AllDigits 10 ds → is_unbroken ds ≡ true
-digits_unbroken [] p = refl
-digits_unbroken (x ∷ xs) p =
-    let q = tells_digits.parts x xs p in
-    both (x == 10) (is_unbroken xs) (no_break x q.0) (digits_unbroken xs q.1)
-  where
-    no_break : (x : ℕ) → IsInRange 48 57 x → (x == 10) ≡ false
-    no_break x r = grind arith
-
-    both : (p q : Bool) → p ≡ false → q ≡ true → (not p && q) ≡ true
-    both p q e f = (λ i. not (e i) && q) ∙ f
-
-pub decimal_unbroken : (n : ℕ) → n < 2 ^ 64 → is_unbroken (decimal n) ≡ true
-decimal_unbroken n small = digits_unbroken (decimal n) (digits_decimal own n small)
 
 after_unbroken : (ns : List ℕ) → AreWords64 ns → is_unbroken (flat_map (λ m. 32 ∷ decimal m) ns) ≡ true
 after_unbroken [] h = refl

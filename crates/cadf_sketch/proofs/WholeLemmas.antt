@@ -1,8 +1,7 @@
 -- The sketch of an inventory satisfies the invariant of sketches.
-use Rattle.cadf_sketch.proofs.Common.{common_steps, ◌≡◌, ℕ, zero, suc, ◌+◌, ◌*◌, ◌/◌, ◌%◌, ◌^◌, ◌<◌, List, [], ◌∷◌, length, replicate, refl, sym, ap, ◌∙◌, arith, slice_index, bit_xor, AllByRecursion, zip2, xor_of_8, xor_lt, mod_below, length-replicate, InventoryModel, AreDigests, Text, IsDigest, each_digest, digests_push, sha256, digest_bytes, final_hash, initial_hash_256, length-sha256, inventory_digest, LayoutModel, IsLayout, word, check, each_xor, nothing, mixed, mixed_at, cell_at, toggled, toggled_all, Peels, none, more, differing, SketchModel, cells_of, sketch_of, AreWords64, IsTally, IsCell, HasParts, with_bits, tallied, tallied_all, tally_of, Cell, Tally}
+use Rattle.cadf_sketch.proofs.Common.{common_steps, ◌≡◌, ℕ, zero, suc, ◌+◌, ◌*◌, ◌/◌, ◌%◌, ◌^◌, ◌<◌, List, [], ◌∷◌, length, replicate, refl, sym, ap, ◌∙◌, arith, slice_index, bit_xor, AllByRecursion, zip2, xor_of_8, xor_lt, mod_below, length-replicate, InventoryModel, AreDigests, Text, IsDigest, each_digest, digests_push, inventory_digest, LayoutModel, IsLayout, word, check, each_xor, nothing, mixed, mixed_at, cell_at, toggled, toggled_all, Peels, none, more, differing, SketchModel, cells_of, sketch_of, AreWords64, IsTally, IsCell, HasParts, with_bits, tallied, tallied_all, tally_of, Cell, Tally, sha_digest}
 use Rattle.cadf_sketch.proofs.TallyLemmas.{length-with_bits}
 use Rattle.cadf_sketch.proofs.CellLemmas.{length-toggled_all}
-use Rattle.cadf_sketch.proofs.LineLemmas.{append_fits, high_fits}
 
 -- ---- the XOR of two digests
 
@@ -90,15 +89,6 @@ unfolding tally_of
 tally_fits ds = all_tallied (record { digests = 0; ones = replicate 64 0 }) ds (record { digests = omega arith; size = refl; ones = zero_words 64 })
 
 -- ---- the sketch of an inventory
-
-digest_are : (h : List ℕ) (n : ℕ) (i : ℕ) → slice_index (digest_bytes h n) i < 256
-unfolding digest_bytes
-digest_are h zero i = omega arith
-digest_are h (suc n) i = append_fits (digest_bytes h n) _ (digest_are h n) (high_fits 4 (slice_index h n)) i
-
-pub sha_digest : (message : List ℕ) → IsDigest (sha256 message)
-unfolding sha256
-sha_digest message = record { size = length-sha256 message; bytes = digest_are (final_hash initial_hash_256 message) 8 }
 
 pub sketch_parts : (n : InventoryModel) (l : LayoutModel) → AreDigests n.digests → IsLayout l → l.salt < 2 ^ 64 → HasParts (sketch_of n l)
 unfolding sketch_of cells_of inventory_digest

@@ -1,16 +1,12 @@
 -- What the sender of a sketch lacks.
---     inventory_of held            the inventory of a replica: the digests of its atoms
 --     IsAnswer held sketch part    some inventory of the log has the sketch's digest, and part is the delta of held against it
 use Rattle.std.specs.Prelude.{◌≡◌}
 use Rattle.cadf_line.specs.Digest.{atom_digest}
 use Rattle.cadf_set.specs.Inventory.{InventoryModel}
-use Rattle.cadf_line.specs.Missing.{digests_of, missing_by}
+use Rattle.cadf_line.specs.Missing.{missing_by}
 use Rattle.cadf_set.specs.Replica.{ReplicaModel}
 use Rattle.cadf_inventory.specs.InventoryFile.{IsInventory, inventory_digest}
 use Rattle.cadf_sketch.specs.Sketches.{SketchModel}
-
-abbrev pub inventory_of : ReplicaModel → InventoryModel
-inventory_of held = record { log = held.log; digests = digests_of atom_digest held.atoms }
 
 pub record IsAnswer (held : ReplicaModel) (sketch : SketchModel) (part : ReplicaModel) : Type 0 where
   pub log : held.log ≡ sketch.log

@@ -1,6 +1,5 @@
 -- The result of reading a sketch file, as a function of its bytes, of the limit and of whether a read failed.
---     number_in word            the number of 64 bits whose decimal digits are the word
---     numbers_in k text         k + 1 such numbers, separated by one space
+--     numbers_in k text         k + 1 numbers of 64 bits, separated by one space
 --     head_in, tally_in, cell_in   the value that the line encodes, if it is such a line
 --     cause_after before line   what is wrong with the line, if `before` are the lines between it and the log line
 --     is_whole lines            these lines, which follow the log line, include all cells
@@ -17,8 +16,9 @@ use Rattle.cadf_join.specs.Contents.{Text}
 use Rattle.cadf_linefile.specs.declared.fault.Cause.{Cause}
 use Rattle.cadf_linefile.specs.declared.fault.Cause.TheVariants.{Shape}
 use Rattle.cadf_linefile.specs.declared.fault.FileFault.{FileFault}
-use Rattle.cadf_linefile.specs.LineGrammar.{LineGrammar}
+use Rattle.cadf_linefile.specs.LineGrammar.{LineGrammar, shape_unless}
 use Rattle.cadf_linefile.specs.ModelKind.{ModelKind, grammar_of, decided_of, verdict_of}
+use Rattle.cadf_linefile.specs.Numbers.{number_in, first_word, words_after}
 use Rattle.cadf_linefile.specs.Verdict.{log_in_line}
 use Rattle.cadf_inventory.specs.InventoryVerdict.{if_spelled, digest_of}
 use Rattle.cadf_sketch.specs.Layouts.{LayoutModel, layout_of}
@@ -29,19 +29,6 @@ use Rattle.cadf_sketch.specs.declared.layout.Head.{Head}
 use Rattle.cadf_sketch.specs.declared.tally.Tally.{Tally}
 
 -- ---- numbers
-
-abbrev pub number_if : List ℕ → ℕ → Option ℕ
-number_if word n = if bytes_eq word (decimal n) && nat_lt n (2 ^ 64) then Some n else None
-
-unfoldable pub number_in : List ℕ → Option ℕ
-number_in word = number_if word (digits_value 10 word)
-
--- the bytes before the first space, and those after it
-abbrev pub first_word : List ℕ → List ℕ
-first_word text = take (position_or_len (λ x. x == 32) text) text
-
-abbrev pub words_after : List ℕ → List ℕ
-words_after text = drop (position_or_len (λ x. x == 32) text + 1) text
 
 abbrev pub put_before : Option ℕ → Option (List ℕ) → Option (List ℕ)
 put_before None ns = None
@@ -88,9 +75,6 @@ unfoldable pub cell_in : List ℕ → Option Cell
 cell_in line = option_map cell_of_bytes (if_spelled line (decode_sized line 40))
 
 -- ---- the grammar
-
-abbrev pub shape_unless : Bool → Option Cause
-shape_unless ok = if ok then None else Some Shape
 
 -- the number of cells that the head line states
 abbrev pub cells_of_head : Option Head → ℕ

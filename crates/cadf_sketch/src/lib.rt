@@ -4,7 +4,6 @@
 mod cell;
 mod laws;
 mod layout;
-mod numbers;
 mod peel;
 mod reading;
 mod sketch;
@@ -17,7 +16,6 @@ pub use laws::{
     read_is_what_was_sketched, sketch_file_is_injective, sketch_is_read_back,
 };
 pub use layout::{Cells, Head, Layout, Salt};
-pub use numbers::{cut_at_blank, number_in};
 pub use reading::{ReadFault, missing_by_sketch, read};
 pub use sketch::Sketch;
 pub use tally::Tally;

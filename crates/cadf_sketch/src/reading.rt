@@ -1,9 +1,10 @@
 //! Finds the inventory of which a sketch was made, and the delta for its sender.
 ghost use Rattle.std.specs.Prelude.{◌≡◌, IfOk, IfErr, OnOk};
+ghost use Rattle.cadf_set.specs.Inventory.{inventory_of};
 ghost use Rattle.cadf_inventory.specs.InventoryFile.{inventory_digest};
 ghost use Rattle.cadf_sketch.specs.Flips.{apart};
 ghost use Rattle.cadf_sketch.specs.Refusals.{IsPeeled, IsReadFault};
-ghost use Rattle.cadf_sketch.specs.Answers.{inventory_of, IsAnswer};
+ghost use Rattle.cadf_sketch.specs.Answers.{IsAnswer};
 
 use crate::peel::peel;
 use crate::sketch::{Sketch, tally, toggle_all};

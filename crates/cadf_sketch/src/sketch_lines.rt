@@ -1,19 +1,19 @@
 //! The file of a sketch: its lines decoded and made.
 ghost use Rattle.std.specs.Prelude.{◌≡◌, ◌≤◌, ◌*◌, IfErr, OnOk, length, refl, ◌∷◌, IfOk, ◌++◌, decimal, flat_map};
 ghost use Rattle.cadf_linefile.specs.Answers.{CauseIs};
+ghost use Rattle.cadf_linefile.specs.Numbers.{number_in};
 ghost use Rattle.cadf_sketch.specs.SketchFile.{cell_lines, IsSketch, head_of, head_line, counts_line, cell_line};
-ghost use Rattle.cadf_sketch.specs.SketchVerdict.{sketch_kind, cause_of_cell, head_in, laid_out, number_in, tally_in, cell_in, cell_of_bytes, counts_in_words};
+ghost use Rattle.cadf_sketch.specs.SketchVerdict.{sketch_kind, cause_of_cell, head_in, laid_out, tally_in, cell_in, cell_of_bytes, counts_in_words};
 ghost use Rattle.cadf_sketch.specs.SketchLines.{told_lines, AreTold, IsCellPut};
 
 use crate::cell::Cell;
 use crate::layout::{Cells, Head, Layout, Salt};
-use crate::numbers::{cut_at_blank, number_in};
 use crate::sketch::Sketch;
 use crate::tally::Tally;
 use cadf_event::Name;
 use cadf_inventory::digest_of;
 use cadf_json::Memory;
-use cadf_linefile::{Cause, LineFault, ModelFile};
+use cadf_linefile::{Cause, LineFault, ModelFile, cut_at_blank, number_in};
 use std::alloc::Global;
 
 /// The values decoded from the lines after the log line, so far.

@@ -1,5 +1,5 @@
 use Rattle.cadf_sketch.proofs.Common.{◌≡◌, ◌∙◌, ◌+◌, ◌-◌, ◌∷◌, [], Some, suc, ap, sym, subst, take, rules, arith, take_more_set}
-use Rattle.cadf_sketch.proofs.NumberLemmas.{AreCounts, counts_begin, count_uncut, count_missing, count_read, last_count, last_set}
+use Rattle.cadf_sketch.proofs.CountLemmas.{AreCounts, counts_begin, count_uncut, count_missing, count_read, last_count, last_set}
 use Rattle.cadf_sketch.proofs.sketch_lines.counts_in.Goals as goal
 
 pub returns-in_err-first : goal.returns-in_err-first

@@ -1,5 +1,5 @@
 use Rattle.cadf_sketch.proofs.Common.{◌≡◌, ◌∷◌, ◌-◌, length, take}
-use Rattle.cadf_sketch.proofs.NumberLemmas.{AreCounts}
+use Rattle.cadf_sketch.proofs.CountLemmas.{AreCounts}
 use Rattle.cadf_sketch.proofs.sketch_lines.counts_in.Given as goal
 
 abbrev pub invariant-loop-bit : goal.invariant-loop-bit

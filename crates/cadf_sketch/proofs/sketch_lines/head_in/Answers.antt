@@ -1,5 +1,5 @@
-use Rattle.cadf_sketch.proofs.Common.{common_steps, ◌∙◌, arith, head_in_words}
-use Rattle.cadf_sketch.proofs.LineLemmas.{prefixed, head_uncut, head_uncut_twice, no_layout, no_last, head_read}
+use Rattle.cadf_sketch.proofs.Common.{common_steps, ◌∙◌, arith, head_in_words, prefixed}
+use Rattle.cadf_sketch.proofs.LineLemmas.{head_uncut, head_uncut_twice, no_layout, no_last, head_read}
 use Rattle.cadf_sketch.proofs.sketch_lines.head_in.Goals as goal
 
 pub returns-in_err-cells : goal.returns-in_err-cells

@@ -1,5 +1,4 @@
-use Rattle.cadf_sketch.proofs.Common.{◌∙◌, counts_in_words}
-use Rattle.cadf_sketch.proofs.LineLemmas.{prefixed}
+use Rattle.cadf_sketch.proofs.Common.{◌∙◌, counts_in_words, prefixed}
 use Rattle.cadf_sketch.proofs.sketch_lines.tally_in.Goals as goal
 
 pub returns : goal.returns

@@ -2,7 +2,7 @@
 
 ghost use Rattle.std.specs.Prelude.{◌≡◌, ◌==◌, [], is_some, MatchOption};
 ghost use Rattle.std.specs.List.{list_any};
-ghost use Rattle.cadf_sketch.specs.SketchVerdict.{number_in, first_word, words_after};
+ghost use Rattle.cadf_linefile.specs.Numbers.{number_in, first_word, words_after};
 
 use memchr::memchr;
 

@@ -1,6 +1,6 @@
-use Rattle.cadf_sketch.proofs.Common.{common_steps, ◌≡◌, ◌<◌, ◌^◌, ◌∙◌, ap, subst, arith, then_some, bytes_eq, ParsesUnsigned}
-use Rattle.cadf_sketch.proofs.NumberLemmas.{number_not_text, number_not_parsed, number_read}
-use Rattle.cadf_sketch.proofs.numbers.number_in.Goals as goal
+use Rattle.cadf_linefile.proofs.Common.{common_steps, ◌≡◌, ◌<◌, ◌^◌, ◌∙◌, ap, subst, arith, then_some, bytes_eq, ParsesUnsigned}
+use Rattle.cadf_linefile.proofs.NumberLemmas.{number_not_text, number_not_parsed, number_read}
+use Rattle.cadf_linefile.proofs.numbers.number_in.Goals as goal
 
 pub returns-in_err-ok : goal.returns-in_err-ok
 returns-in_err-ok c = grind (arith, common_steps, number_not_text)

@@ -1,5 +1,5 @@
-use Rattle.cadf_sketch.proofs.NumberLemmas.{cut_of, none_after, blank_there, none_there}
-use Rattle.cadf_sketch.proofs.numbers.cut_at_blank.Goals as goal
+use Rattle.cadf_linefile.proofs.NumberLemmas.{cut_of, none_after, blank_there, none_there}
+use Rattle.cadf_linefile.proofs.numbers.cut_at_blank.Goals as goal
 
 pub returns-in_err-at-clause-blank : goal.returns-in_err-at-clause-blank
 returns-in_err-at-clause-blank c = rw c.from_residual.ensures (none_there c.args.text.now c.in_err-at.ensures)
