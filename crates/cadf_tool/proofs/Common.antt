@@ -25,6 +25,7 @@ pub use Rattle.cadf_file.specs.File.{IsFile, IsFileWithin, IsReplica}
 pub use Rattle.cadf_file.specs.FileOf.{file_of}
 pub use Rattle.cadf_file.specs.Reads.{ReadsFile}
 pub use Rattle.cadf_file.specs.Verdict.{decided, verdict}
+pub use Rattle.cadf_inventory.proofs.DigestLines.{sha_digest}
 pub use Rattle.cadf_inventory.proofs.InventoryVerdictLemmas.{accepts-inventories, inventory-file-tells}
 pub use Rattle.cadf_inventory.specs.InventoryFile.{DoNotCollide, IsInventory, inventory_file}
 unfoldable pub use Rattle.cadf_inventory.specs.InventoryFile.{inventory_digest}
@@ -74,7 +75,6 @@ pub use Rattle.cadf_set.specs.Replica.{ReplicaModel}
 pub use Rattle.cadf_sketch.proofs.AskedLemmas.{asked_is}
 pub use Rattle.cadf_sketch.proofs.DigestLemmas.{same_inventory}
 pub use Rattle.cadf_sketch.proofs.SketchFileLemmas.{sketch-file-tells}
-pub use Rattle.cadf_sketch.proofs.WholeLemmas.{sha_digest}
 pub use Rattle.cadf_sketch.specs.Answers.{IsAnswer}
 pub use Rattle.cadf_sketch.specs.Layouts.{LayoutModel, are_cells, default_cells, layout_with}
 pub use Rattle.cadf_sketch.specs.SketchFile.{sketch_file}

@@ -2,9 +2,9 @@
 --     proof_for h facts     the proof for the facts of an input, the first, by the inventory of a replica, or why there is none
 --     proof_of_union pair   the same of a pair: that input, and a list of the others, which is joined
 use Rattle.std.specs.Prelude.{List, None, Result, Ok}
+use Rattle.cadf_set.specs.Inventory.{inventory_of}
 use Rattle.cadf_set.specs.Replica.{ReplicaModel}
 use Rattle.cadf_seal.specs.ProofFile.{ProofModel, proof_of}
-use Rattle.cadf_sketch.specs.Answers.{inventory_of}
 use Rattle.cadf_tool.specs.declared.input.Loaded.{Loaded}
 use Rattle.cadf_tool.specs.declared.fault.ToolFault.{ToolFault}
 use Rattle.cadf_tool.specs.Join.{join_from, facts_under, on_ok}

@@ -3,9 +3,9 @@
 --     sketch_model_of cells salt loaded   the sketch of an input's inventory, or why there is none
 --     IsPartOfUnionBySketch both answer   a result for a list of inputs and a sketch; a relation, since it leaves open which digests peeling finds
 use Rattle.std.specs.Prelude.{◌≡◌, ◌<◌, ◌+◌, ◌^◌, ℕ, true, List, length, Option, None, IfSome, unwrap_or, Result, Ok, Err}
-use Rattle.cadf_set.specs.Inventory.{InventoryModel}
+use Rattle.cadf_set.specs.Inventory.{InventoryModel, inventory_of}
 use Rattle.cadf_set.specs.Replica.{ReplicaModel}
-use Rattle.cadf_sketch.specs.Answers.{inventory_of, IsAnswer}
+use Rattle.cadf_sketch.specs.Answers.{IsAnswer}
 use Rattle.cadf_sketch.specs.Layouts.{are_cells, default_cells, is_salt}
 use Rattle.cadf_sketch.specs.Refusals.{IsReadFault}
 use Rattle.cadf_sketch.specs.Sketches.{SketchModel, asked}

@@ -1,7 +1,7 @@
 //! The engine of `prove`: the proof of which facts of an input are in a union of others, as a proof file.
 ghost use Rattle.std.specs.Prelude.{◌≤◌, length, map, List, None, Ok};
 ghost use Rattle.cadf_seal.specs.ProofFile.{proof_file};
-ghost use Rattle.cadf_sketch.specs.Answers.{inventory_of};
+ghost use Rattle.cadf_set.specs.Inventory.{inventory_of};
 ghost use Rattle.cadf_tool.specs.declared.input.Loaded.{Loaded};
 ghost use Rattle.cadf_tool.specs.Join.{facts_under, on_ok};
 ghost use Rattle.cadf_tool.specs.JoinState.{IsJoinState};
