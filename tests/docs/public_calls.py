@@ -11,8 +11,8 @@ from tests.docs import reachable
 from tests.proofs import corpus
 from tests.tables import make
 
-# A paragraph of the list: the crate and whether its calls take memory, or what no row makes.
-LISTED = re.compile(r"(?m)^(?:(\w+), (with|without) memory|Only .*):\n((?:  .*\n)+)")
+# A paragraph of the list: the crate and whether its calls take memory, or what no row makes, and of which crate if it has no other calls.
+LISTED = re.compile(r"(?m)^(?:(\w+), (with|without) memory|Only (?:.* of (cadf_\w+), )?.*):\n((?:  .*\n)+)")
 OWNER = re.compile(r"(?:impl(?:<.*?>)? (?:\w+(?:<.*?>)? for )?|pub trait )(\w+)")
 SIGNATURE = re.compile(r"(?s).*?(?=\n\s+(?:requires|ensures)|\{|;\n)")
 
@@ -20,8 +20,8 @@ SIGNATURE = re.compile(r"(?s).*?(?=\n\s+(?:requires|ensures)|\{|;\n)")
 def listed(text):
     """The listed calls: whether each takes memory, None for what no row makes; and the crates of the list."""
     calls, crates = {}, set()
-    for crate, memory, names in LISTED.findall(text):
-        crates |= {crate} - {""}
+    for crate, memory, home, names in LISTED.findall(text):
+        crates |= {crate, home} - {""}
         calls.update((name, memory == "with" if crate else None) for name in re.findall(r"[\w:]+", names))
     return calls, crates
 

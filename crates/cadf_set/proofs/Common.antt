@@ -18,6 +18,7 @@ pub use Rattle.cadf_event.specs.Known.{DocumentInvariant, EntityInvariant, IsAtt
 pub use Rattle.cadf_event.specs.Property.{PropertyParts}
 pub use Rattle.cadf_event.specs.declared.entity.Kind.{Kind}
 pub use Rattle.cadf_event.specs.declared.entity.Kind.TheVariants.{Geolocation, Metric, Resource}
+pub use Rattle.cadf_join.proofs.Members.{listed_either}
 pub use Rattle.cadf_join.proofs.Membership.{in_singles}
 pub use Rattle.cadf_join.proofs.Outcome.{on_err_then, on_ok_then}
 pub use Rattle.cadf_join.proofs.Risings.{rising-section, rising-singles}
@@ -78,7 +79,7 @@ pub use Rattle.std.specs.List.Sorted.{IsPermutation}
 unfoldable pub use Rattle.std.specs.List.Sorted.{IsStrictlySortedBy}
 pub use Rattle.std.specs.Map.Iter.{TakesFirst, deref}
 pub use Rattle.std.specs.Option.{option_copied}
-pub use Rattle.std.specs.Ordering.{eq_by_cmp, is_lt, match_ordering}
+pub use Rattle.std.specs.Ordering.{eq_by_cmp, is_lt, match_ordering, ordering_then}
 pub use Rattle.std.specs.Prelude.{Contains, IfSome, IsTrue, None, OnOk, Option, Some, nat_le, nat_lt, not, option_map, slice_index_or, ◌&&◌, ◌||◌, ◌↔◌}
 pub use Rattle.std.specs.declared.cmp.Ordering.{Ordering}
 pub use Rattle.std.specs.declared.cmp.Ordering.TheVariants.{Equal, Greater, Less}

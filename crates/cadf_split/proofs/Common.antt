@@ -4,6 +4,7 @@ pub use Rattle.cadf_atom.specs.Atom.{atom_rules}
 pub use Rattle.cadf_atom.specs.AtomSets.{IsReplicaSet}
 pub use Rattle.cadf_atom.specs.Contributions.{union_all}
 pub use Rattle.cadf_atom.specs.Shown.{values}
+pub use Rattle.cadf_event.specs.Known.{IsBodyText}
 pub use Rattle.cadf_file.proofs.FileTwoLemmas.{no_empty}
 pub use Rattle.cadf_file.proofs.WalkLemmas.{nodes_are_walked}
 pub use Rattle.cadf_file.specs.BodyAt.{body_at}
@@ -25,14 +26,13 @@ pub use Rattle.cadf_line.specs.Missing.{Digests, NoCollision, digests_of, missin
 pub use Rattle.cadf_linefile.specs.Lines.{text_of_lines, with_line_feed}
 pub use Rattle.cadf_linefile.specs.Verdict.{digest_line, log_line, with_digest_line}
 pub use Rattle.cadf_linefile.specs.laws.Prefixes.{front_after, front_more, none_written}
-pub use Rattle.cadf_log.proofs.Instants.{timed}
-pub use Rattle.cadf_log.proofs.Rising.{values_rise}
-pub use Rattle.cadf_log.specs.Back.{IsBodyText}
-pub use Rattle.cadf_log.specs.Texts.{body_instant}
 pub use Rattle.cadf_pathset.proofs.Orders.{then_more}
 pub use Rattle.cadf_pathset.specs.Lists.{at_places}
+pub use Rattle.cadf_scan.proofs.Instants.{timed}
+pub use Rattle.cadf_scan.specs.Instants.{body_instant}
 pub use Rattle.cadf_set.proofs.Again.{in_order_retain, value_listed}
 pub use Rattle.cadf_set.proofs.Membership.{listed_value}
+pub use Rattle.cadf_set.proofs.RisingValues.{values_rise}
 pub use Rattle.cadf_set.specs.Replica.{ReplicaModel}
 pub use Rattle.cadf_set.specs.Ruled.{is_conflicted}
 pub use Rattle.cadf_split.specs.Parts.{IsInTwoParts, IsOfCarrier, keys_by, part_by, parts_by}

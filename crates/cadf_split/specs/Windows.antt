@@ -9,7 +9,7 @@ use Rattle.std.specs.Int.{int_div_euclid, int_rem_euclid}
 use Rattle.cadf_time.specs.Time.{two_digits, year_of, month_of, day_in_month, nanos_of_day}
 use Rattle.cadf_join.specs.Contents.{Text, Texts, Contents}
 use Rattle.cadf_line.specs.Atoms.{is_text, begins_with, event_letter}
-use Rattle.cadf_log.specs.Texts.{body_instant}
+use Rattle.cadf_scan.specs.Instants.{body_instant}
 use Rattle.cadf_split.specs.declared.unit.Unit.{Unit}
 use Rattle.cadf_split.specs.declared.unit.Unit.TheVariants.{Month, Day, Hour}
 use Rattle.cadf_split.specs.Parts.{part_by, keys_by}

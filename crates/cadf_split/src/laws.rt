@@ -10,8 +10,8 @@ ghost use Rattle.cadf_line.specs.Missing.{missing, missing_by, Digests, digests_
 ghost use Rattle.cadf_atom.specs.AtomSets.{IsReplicaSet};
 ghost use Rattle.cadf_atom.specs.Contributions.{union_all};
 ghost use Rattle.cadf_set.specs.Ruled.{is_conflicted};
-ghost use Rattle.cadf_log.specs.Back.{IsBodyText};
-ghost use Rattle.cadf_log.specs.Texts.{body_instant};
+ghost use Rattle.cadf_event.specs.Known.{IsBodyText};
+ghost use Rattle.cadf_scan.specs.Instants.{body_instant};
 ghost use Rattle.cadf_split.specs.declared.unit.Unit.{Unit};
 ghost use Rattle.cadf_split.specs.Parts.{IsInTwoParts};
 ghost use Rattle.cadf_split.specs.Windows.{key, part, part_keys, day_number, IsShownDay, window, name};
