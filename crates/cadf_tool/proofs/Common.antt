@@ -58,9 +58,9 @@ pub use Rattle.cadf_linefile.specs.declared.file_feed.TheConstants.{FILE_LIMIT}
 pub use Rattle.cadf_log.proofs.OneDocument.{one_document_each}
 pub use Rattle.cadf_log.proofs.Texts.{conflicts_have_one, conflicts_read as list_is_read, log_again, log_read as log_is_read, log_read, log_text_has_one, one_value, texts_tell}
 pub use Rattle.cadf_log.specs.ReadBack.{IsConflictTextOf, IsLogTextOf}
-pub use Rattle.cadf_log.specs.Texts.{body_instant}
 unfoldable pub use Rattle.cadf_log.specs.Texts.{log_text}
 pub use Rattle.cadf_rehearsal.specs.declared.turn.Turn.{Turn as Step}
+pub use Rattle.cadf_scan.specs.Instants.{body_instant}
 pub use Rattle.cadf_seal.specs.ProofFile.{ProofModel}
 pub use Rattle.cadf_seal.specs.SealFile.{SealModel, seal_file}
 pub use Rattle.cadf_set.proofs.Again.{in_order_retain}

@@ -9,7 +9,7 @@ ghost use Rattle.cadf_join.specs.Contents.{Text, Texts, Contents, Has};
 ghost use Rattle.cadf_line.specs.Atoms.{event_letter, begins_with};
 ghost use Rattle.cadf_linefile.specs.Lines.{text_of_lines, with_line_feed};
 ghost use Rattle.cadf_linefile.specs.Verdict.{digest_line};
-ghost use Rattle.cadf_log.specs.Texts.{body_instant};
+ghost use Rattle.cadf_scan.specs.Instants.{body_instant};
 ghost use Rattle.cadf_set.specs.Replica.{ReplicaModel};
 ghost use Rattle.cadf_split.specs.declared.unit.Unit.{Unit};
 ghost use Rattle.cadf_split.specs.Split.{split_head, part_line, noted_lines, replica_of_part, split_text};
