@@ -62,6 +62,7 @@ pub use Rattle.cadf_linefile.proofs.BodyLines.{AreAfter, IsJudgedAlone, IsKind, 
 pub use Rattle.cadf_linefile.proofs.EitherLemmas.{either_is_chosen}
 pub use Rattle.cadf_linefile.proofs.JudgeLemmas.{later_body, later_digest}
 pub use Rattle.cadf_linefile.proofs.LinesLemmas.{and_true, are_unbroken, both, cut-lines, cut_of}
+pub use Rattle.cadf_linefile.proofs.NumberLemmas.{number-again, number-only}
 pub use Rattle.cadf_linefile.proofs.ReadingLemmas.{unless_map}
 pub use Rattle.cadf_linefile.proofs.UnbrokenLines.{last_apart, quoted_same, unbroken_digest}
 pub use Rattle.cadf_linefile.proofs.VerdictLemmas.{first_none, good_log, unless_none}
@@ -69,6 +70,7 @@ pub use Rattle.cadf_linefile.proofs.WritingLemmas.{Completes, completes_more, fr
 pub use Rattle.cadf_linefile.specs.Answers.{PlacedIs}
 pub use Rattle.cadf_linefile.specs.Kinds.{begins}
 pub use Rattle.cadf_linefile.specs.Lines.{cut, text_of_lines, with_line_feed}
+pub use Rattle.cadf_linefile.specs.Numbers.{number_in}
 pub use Rattle.cadf_linefile.specs.OneOfTwo.{either_lines}
 pub use Rattle.cadf_linefile.specs.Verdict.{at_line, begins_digest, body_fault, first_of, log_line, with_digest_line}
 pub use Rattle.cadf_linefile.specs.declared.fault.Cause.{Cause}
@@ -103,7 +105,7 @@ pub use Rattle.std.proofs.KnownBytes.{Appends-trans}
 pub use Rattle.std.proofs.lemmas.Bool.{cases_eq, cases_lt, false_from_ne_true, le-ltb, lt-ltb, ltb-true, ne_eqb}
 pub use Rattle.std.proofs.lemmas.Bool.Decides.{Decides-eqb, nat_tests}
 pub use Rattle.std.proofs.lemmas.Cmp.{eq_by_cmp_equiv}
-pub use Rattle.std.proofs.lemmas.Fmt.{decimal_by_steps, parse-decimal}
+pub use Rattle.std.proofs.lemmas.Fmt.{decimal_by_steps}
 pub use Rattle.std.proofs.lemmas.Grind.{common_steps, flat_map-append}
 pub use Rattle.std.proofs.lemmas.List.{append_cancel_right, drop-append-le, drop_all, get_or-drop, length-drop, length-map, length-take, length_push, map-append, take-append-le, take-map, take-take, take_all, take_at, take_min}
 pub use Rattle.std.proofs.lemmas.Map.Views.{Contains-from_any, list_any-from_Contains}
