@@ -23,7 +23,7 @@ pub use Rattle.cadf_linefile.specs.Lines.{text_of_lines, with_line_feed}
 pub use Rattle.cadf_linefile.specs.Verdict.{at_line, begins_digest, body_fault, digest_line, first_of, log_in_line, log_line, with_digest_line}
 pub use Rattle.cadf_linefile.specs.declared.fault.Cause.TheVariants.{Order, Shape}
 pub use Rattle.cadf_linefile.specs.declared.fault.FileFault.TheVariants.{Line}
-pub use Rattle.cadf_set.proofs.Inventories.{AreDigests-empty, AreDigests-insert}
+pub use Rattle.cadf_set.proofs.DigestSets.{AreDigests-empty, AreDigests-insert}
 pub use Rattle.cadf_set.specs.Inventory.{AreDigests, InventoryModel}
 pub use Rattle.hex.proofs.HexLemmas.{decode_of-ok, decode_sized-encode_lower, decode_sized-ok, decode_sized-twice}
 pub use Rattle.hex.specs.Hex.{decode_sized, encode_lower, lower_digits}

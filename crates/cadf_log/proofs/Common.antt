@@ -69,19 +69,19 @@ pub use Rattle.cadf_log.specs.declared.splice.OwnMembers.TheVariants.{Entries, S
 pub use Rattle.cadf_log.specs.declared.splice.PendingMembers.{PendingMembers}
 pub use Rattle.cadf_pathset.proofs.Several.{text_in, texts_of}
 pub use Rattle.cadf_pathset.specs.Sections.{sections_from, sections_of, suffixes_after}
-pub use Rattle.cadf_scan.proofs.Cutting.{comma_off, cut_front, cut_rest}
-pub use Rattle.cadf_scan.proofs.Instants.{IsKept, body_instant_is, is_kept}
+pub use Rattle.cadf_scan.proofs.BodyInstants.{IsKept, body_instant_is, is_kept}
+pub use Rattle.cadf_scan.proofs.CutMembers.{comma_off, cut_front, cut_rest}
 pub use Rattle.cadf_scan.proofs.TextValues.{spelled, spelled_holds, text-value_of}
 pub use Rattle.cadf_scan.specs.Instants.{body_instant, value_of}
 pub use Rattle.cadf_scan.specs.Scan.{has_members, members_below, members_front, members_not_below, without_comma}
-pub use Rattle.cadf_set.proofs.Again.{shown_again, shown_once, value_listed}
-pub use Rattle.cadf_set.proofs.Behind.{behind_four, keys_are_heads, values_behind}
-pub use Rattle.cadf_set.proofs.Content.{by_time_listed, conflict_content_is, contested_listed, listed_by_time, listed_contested, listed_key, log_content_is, place_listed}
+pub use Rattle.cadf_set.proofs.AfterPrefix.{behind_four, keys_are_heads, values_behind}
 pub use Rattle.cadf_set.proofs.History.{contains_listed, listed_contains}
-pub use Rattle.cadf_set.proofs.Membership.{listed_value}
+pub use Rattle.cadf_set.proofs.InLogOrConflicts.{apart, entry_from, strip_is, together}
 pub use Rattle.cadf_set.proofs.RisingValues.{lower_first, same_first, sorted_filter_map, sorted_flat_map, sorted_map, value_order, values_rise}
-pub use Rattle.cadf_set.proofs.Ruled.{AreOf, alone_is_shown, sections_are_of, shown_exactly, shown_is_ruled}
-pub use Rattle.cadf_set.proofs.Shown.{apart, entry_from, strip_is, together}
+pub use Rattle.cadf_set.proofs.RuledValues.{AreOf, alone_is_shown, sections_are_of, shown_exactly, shown_is_ruled}
+pub use Rattle.cadf_set.proofs.ShownAgain.{shown_again, shown_once, value_listed}
+pub use Rattle.cadf_set.proofs.ShownContent.{by_time_listed, conflict_content_is, contested_listed, listed_by_time, listed_contested, listed_key, log_content_is, place_listed}
+pub use Rattle.cadf_set.proofs.ValueMembers.{listed_value}
 pub use Rattle.cadf_set.specs.Ruled.{is_conflicted, is_ruled, ruled_value, shown_value}
 pub use Rattle.cadf_terms.specs.Terms.{is_event_type, is_outcome}
 pub use Rattle.cadf_time.proofs.TimeLaws.{one_pair}

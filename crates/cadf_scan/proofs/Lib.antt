@@ -1,7 +1,7 @@
+pub mod BodyInstants
 pub mod Common
-pub mod Cutting
-pub mod Instants
-pub mod Naming
-pub mod Passing
-pub mod Scanning
+pub mod CutMembers
+pub mod PlainBytes
+pub mod ScannedValues
+pub mod SpelledNames
 pub mod TextValues

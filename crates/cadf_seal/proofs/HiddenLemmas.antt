@@ -1,6 +1,6 @@
 -- The greatest subtrees without a shown leaf.
 use Rattle.cadf_seal.proofs.Common.{common_steps, ◌≡◌, ◌≢◌, ◌==◌, ◌∙◌, ◌+◌, ◌-◌, ◌<◌, ◌≤◌, ◌^◌, ℕ, zero, suc, false, true≢false, List, [], ◌∷◌, ◌++◌, length, take, drop, ap, sym, arith, append_assoc, if◌then◌else◌, le-leb, lt-leb, take_all, length-take-le, Text, until, leaves_from, hidden, all_hidden, tree, Leaf}
-use Rattle.cadf_seal.proofs.Trees.{tree_any, below_power, within_more, first_part, second_part}
+use Rattle.cadf_seal.proofs.TreeParts.{tree_any, below_power, within_more, first_part, second_part}
 
 -- ---- room
 

@@ -1,7 +1,7 @@
 -- Strictly ascending lists: lists one after another, the images of a list's elements, and the elements that a filter keeps.
 use Rattle.cadf_set.proofs.Common.{common_steps, ◌≡◌, List, [], ◌∷◌, ◌++◌, map, refl, sym, ap, ◌∙◌, subst, inl, inr, arith, Option, Some, None, filter_map, flat_map, cons_option, IsStrictlySortedBy, ordering_then, tied_itself, Listed, rising, AllByRecursion-listed, listed-AllByRecursion, rising_is_sorted, listed_either, Text, Texts, Contents, text_cmp, texts_cmp, text_total, texts_total, texts_same, strip, only, values, flat_map_listed, filter_map_listed, map_listed}
 use Rattle.std.proofs.Common.{Ordering, Less}
-use Rattle.cadf_set.proofs.Again.{value_is}
+use Rattle.cadf_set.proofs.ShownAgain.{value_is}
 
 module _ {K : Type 0} (R : K → K → Ordering) where
   pub sorted_append : (xs ys : List K) → IsStrictlySortedBy R xs → IsStrictlySortedBy R ys → ((x y : K) → Listed x xs → Listed y ys → R x y ≡ Less)

@@ -1,7 +1,7 @@
 -- The sketch that is asked for is a sketch.
 use Rattle.cadf_sketch.proofs.Common.{common_steps, ◌≡◌, ◌<◌, ◌+◌, ◌*◌, ◌/◌, ◌%◌, ◌^◌, ℕ, true, arith, rules, slice_range, Option, None, Some, IfSome, IsDigest, InventoryModel, IsInventory, inventory_digest, inventory_text, word, IsLayout, are_cells, is_salt, layout_with, IsSketch, sketch_of, asked, sha_digest}
 use Rattle.cadf_sketch.proofs.LineLemmas.{from_fits, take_fits}
-use Rattle.cadf_sketch.proofs.WholeLemmas.{sketch_parts}
+use Rattle.cadf_sketch.proofs.SketchInvariant.{sketch_parts}
 
 first_word_fits : (n : InventoryModel) → word (inventory_digest n) 0 < 2 ^ 64
 unfolding word inventory_digest

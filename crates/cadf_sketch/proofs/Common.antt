@@ -31,7 +31,7 @@ pub use Rattle.cadf_linefile.specs.Lines.{text_of_lines, with_line_feed}
 pub use Rattle.cadf_linefile.specs.ModelKind.{AcceptsModels}
 pub use Rattle.cadf_linefile.specs.Numbers.{first_word, number_in, words_after}
 pub use Rattle.cadf_linefile.specs.Verdict.{begins_digest, digest_line, log_line, with_digest_line}
-pub use Rattle.cadf_set.proofs.Inventories.{AreDigests-listed}
+pub use Rattle.cadf_set.proofs.DigestSets.{AreDigests-listed}
 pub use Rattle.cadf_set.specs.Inventory.{AreDigests, InventoryModel}
 pub use Rattle.cadf_sketch.specs.Cells.{cell_at, each_xor, is_lone, mixed, mixed_all, mixed_at, nothing, stands, toggled_all}
 unfoldable pub use Rattle.cadf_sketch.specs.Cells.{check, place_in, toggled, word}

@@ -3,7 +3,7 @@ use Rattle.cadf_sketch.proofs.Common.{common_steps, ◌≡◌, ◌∙◌, ◌<�
 use Rattle.cadf_join.specs.Sets as set
 use Rattle.cadf_sketch.proofs.CellLemmas.{length-toggled_all}
 use Rattle.cadf_sketch.proofs.FlipLemmas.{either, one, in_one, in_apart, by_members, told, apart_none, apart-insert, first_is_new, rest_sorted}
-use Rattle.cadf_sketch.proofs.Cancelling.{AreWide, toggled_twice, wide-toggled_all, wide-nothing, toggled_all_push, toggled_all_insert, length-insert}
+use Rattle.cadf_sketch.proofs.CancelledDigests.{AreWide, toggled_twice, wide-toggled_all, wide-nothing, toggled_all_push, toggled_all_insert, length-insert}
 
 -- ---- sets
 

@@ -1,5 +1,5 @@
 pub mod AskedLemmas
-pub mod Cancelling
+pub mod CancelledDigests
 pub mod CellLemmas
 pub mod Common
 pub mod CountLemmas
@@ -10,7 +10,7 @@ pub mod LineLemmas
 pub mod PeelLemmas
 pub mod PendingLemmas
 pub mod SketchFileLemmas
+pub mod SketchInvariant
 pub mod TallyLemmas
 pub mod ToldLemmas
-pub mod WholeLemmas
 pub mod WriteLemmas

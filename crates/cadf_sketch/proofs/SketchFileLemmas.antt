@@ -1,7 +1,7 @@
 -- The verdict on a sketch's file accepts exactly the files of sketches, and a file determines its sketch.
 use Rattle.cadf_sketch.proofs.Common.{common_steps, ◌≡◌, ℕ, suc, ◌+◌, ◌*◌, List, [], ◌∷◌, ◌++◌, length, map, true, false, Option, Some, None, refl, sym, ap, ◌∙◌, arith, true≢false, rules, is_some, decimal, flat_map, filter_map, w64, to_be_bytes, lt-ltb, Text, IsNameText, is_name_text, is_unbroken, unbroken_quoted, both_unbroken, log_line, with_digest_line, begins_digest, AreAfter, are_unbroken, both, and_true, AcceptsModels, Plain, lines_of, Follows, Ends, IsModelKind, accepts-models, models-tell, name_is, unbroken_digest, good_log, plain_digest, unbroken_digest_of, SketchModel, sketch_header, head_of, head_line, counts_line, cell_line, cell_lines, sketch_body, AreWords64, IsHead, IsTally, HasParts, IsSketch, SketchFileIsInjective, head_in, tally_in, cell_in, shape_unless, cells_of_head, sketch_of_parts, sketch_model_in, sketch_kind, Cell, Head, Tally, shape_none, there, decimal_unbroken}
 use Rattle.cadf_sketch.proofs.LineLemmas.{head-again, head-only, tally-again, tally-only, cell-again, cell-only}
-use Rattle.cadf_sketch.proofs.WholeLemmas.{AreCells}
+use Rattle.cadf_sketch.proofs.SketchInvariant.{AreCells}
 
 abbrev After : List Plain → List Plain → Type 0
 After before xs = AreAfter (Follows sketch_kind) (Ends sketch_kind) before xs

@@ -28,11 +28,11 @@ pub use Rattle.cadf_linefile.specs.Verdict.{digest_line, log_line, with_digest_l
 pub use Rattle.cadf_linefile.specs.laws.Prefixes.{front_after, front_more, none_written}
 pub use Rattle.cadf_pathset.proofs.Orders.{then_more}
 pub use Rattle.cadf_pathset.specs.Lists.{at_places}
-pub use Rattle.cadf_scan.proofs.Instants.{timed}
+pub use Rattle.cadf_scan.proofs.BodyInstants.{timed}
 pub use Rattle.cadf_scan.specs.Instants.{body_instant}
-pub use Rattle.cadf_set.proofs.Again.{in_order_retain, value_listed}
-pub use Rattle.cadf_set.proofs.Membership.{listed_value}
 pub use Rattle.cadf_set.proofs.RisingValues.{values_rise}
+pub use Rattle.cadf_set.proofs.ShownAgain.{in_order_retain, value_listed}
+pub use Rattle.cadf_set.proofs.ValueMembers.{listed_value}
 pub use Rattle.cadf_set.specs.Replica.{ReplicaModel}
 pub use Rattle.cadf_set.specs.Ruled.{is_conflicted}
 pub use Rattle.cadf_split.specs.Parts.{IsInTwoParts, IsOfCarrier, keys_by, part_by, parts_by}

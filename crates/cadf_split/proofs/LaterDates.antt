@@ -1,6 +1,6 @@
 -- Later days have later dates.
 use Rattle.cadf_split.proofs.Common.{common_steps, ◌≡◌, ℕ, zero, suc, ◌+◌, ◌≤◌, Bool, true, not, refl, sym, subst, ◌∙◌, arith, ℤ, pos, neg_ℤ, ◌-ℤ◌, ◌≤ℤ◌, int_lt, unsigned_abs, ints, days_from_civil, signed_arith, days_from_civil-day_count, last_passing, year_of, month_of, day_in_month}
-use Rattle.cadf_split.proofs.Dates.{year_zero}
+use Rattle.cadf_split.proofs.CivilDates.{year_zero}
 
 -- ---- the last that passes
 

@@ -1,11 +1,11 @@
+pub mod CarrierKeys
+pub mod CivilDates
 pub mod Common
-pub mod Conflicts
-pub mod Dates
+pub mod ConflictsOfParts
 pub mod KeyPlaces
-pub mod Keys
 pub mod LaterDates
 pub mod PartFiles
-pub mod Parts
-pub mod Shown
+pub mod PartMembers
+pub mod ShownDays
 pub mod WindowOrder
-pub mod Writing
+pub mod WrittenPieces

@@ -1,5 +1,5 @@
-use Rattle.cadf_seal.proofs.Facts.{facts_are_so}
-use Rattle.cadf_seal.proofs.Sound.{shows_leaves, tells_truth}
+use Rattle.cadf_seal.proofs.ToldFacts.{facts_are_so}
+use Rattle.cadf_seal.proofs.SoundProofs.{shows_leaves, tells_truth}
 use Rattle.cadf_seal.proofs.laws.accepted_proof_is_true.Goals as goal
 
 pub returns-clause-leaves : goal.returns-clause-leaves

@@ -1,4 +1,4 @@
-use Rattle.cadf_seal.proofs.Neighbouring.{fact_has_place, fact_needs, facts_need}
+use Rattle.cadf_seal.proofs.NeighbouringLeaves.{fact_has_place, fact_needs, facts_need}
 use Rattle.cadf_seal.proofs.laws.proof_shows_facts_or_neighbours.Goals as goal
 
 pub returns-clause-place : goal.returns-clause-place

@@ -1,4 +1,4 @@
-use Rattle.cadf_seal.proofs.Determined.{root_determines, seal_determines}
+use Rattle.cadf_seal.proofs.DeterminedLeaves.{root_determines, seal_determines}
 use Rattle.cadf_seal.proofs.laws.seal_determines_inventory.Goals as goal
 
 pub returns-clause-leaves : goal.returns-clause-leaves

@@ -1,6 +1,6 @@
 use Rattle.cadf_seal.proofs.Common.{common_steps, ◌∙◌, sym, arith, length-drop, on_ok_then}
 use Rattle.cadf_seal.proofs.HiddenLemmas.{both_hidden}
-use Rattle.cadf_seal.proofs.Trees.{half, halves}
+use Rattle.cadf_seal.proofs.TreeParts.{half, halves}
 use Rattle.cadf_seal.proofs.tree.+push_hidden.Goals as goal
 
 pub push_hidden-requires-3 : goal.push_hidden-requires-3

@@ -1,5 +1,5 @@
 use Rattle.cadf_seal.proofs.Common.{common_steps, arith, length-drop}
-use Rattle.cadf_seal.proofs.Trees.{half, halves, next_beyond}
+use Rattle.cadf_seal.proofs.TreeParts.{half, halves, next_beyond}
 use Rattle.cadf_seal.proofs.tree.+subtree.Goals as goal
 
 pub subtree-right-requires : goal.subtree-right-requires

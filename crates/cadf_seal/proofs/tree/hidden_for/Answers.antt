@@ -1,6 +1,6 @@
 use Rattle.cadf_seal.proofs.Common.{common_steps, arith}
 use Rattle.cadf_seal.proofs.HiddenLemmas.{hidden_all, none_hidden}
-use Rattle.cadf_seal.proofs.Sound.{places_rise}
+use Rattle.cadf_seal.proofs.SoundProofs.{places_rise}
 use Rattle.cadf_seal.proofs.tree.hidden_for.Goals as goal
 use Rattle.cadf_seal.proofs.tree.hidden_for.Goals.{then-count-gt0+in_ok-push_hidden, else-count-gt0}
 

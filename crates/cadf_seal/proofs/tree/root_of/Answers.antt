@@ -1,5 +1,5 @@
 use Rattle.cadf_seal.proofs.Common.{common_steps, arith}
-use Rattle.cadf_seal.proofs.Trees.{root_none, root_all}
+use Rattle.cadf_seal.proofs.TreeParts.{root_none, root_all}
 use Rattle.cadf_seal.proofs.tree.root_of.Goals as goal
 
 pub returns-then-count-eq0 : goal.returns-then-count-eq0

@@ -1,6 +1,6 @@
 use Rattle.cadf_seal.proofs.Common.{common_steps, ◌∙◌, arith, sym, subst, ap, rebuilt, root_from, PlacesRise}
-use Rattle.cadf_seal.proofs.Sound.{places_rise}
-use Rattle.cadf_seal.proofs.Splitting.{alone_if, root_without, root_with}
+use Rattle.cadf_seal.proofs.SoundProofs.{places_rise}
+use Rattle.cadf_seal.proofs.SplitLeaves.{alone_if, root_without, root_with}
 use Rattle.cadf_seal.proofs.tree.root_of_proof.Goals as goal
 
 pub returns-then-count-eq0 : goal.returns-then-count-eq0

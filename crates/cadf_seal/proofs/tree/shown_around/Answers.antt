@@ -1,5 +1,5 @@
 use Rattle.cadf_seal.proofs.Common.{◌∙◌, sym, subst, rules, nat_le, nat_lt, IsPartitionPoint-from_clause, PlacesRise}
-use Rattle.cadf_seal.proofs.Splitting.{parted, not_before, yet_before, first_part, second_part, all_true, until_rises, from_rises}
+use Rattle.cadf_seal.proofs.SplitLeaves.{parted, not_before, yet_before, first_part, second_part, all_true, until_rises, from_rises}
 use Rattle.cadf_seal.proofs.tree.shown_around.Goals as goal
 
 pub returns : goal.returns

@@ -1,5 +1,5 @@
 use Rattle.cadf_seal.proofs.Common.{common_steps, arith}
-use Rattle.cadf_seal.proofs.Deciding.{ahead_first}
+use Rattle.cadf_seal.proofs.LeavesDecide.{ahead_first}
 use Rattle.cadf_seal.proofs.verify.ahead.Goals as goal
 
 pub returns : goal.returns

@@ -1,6 +1,6 @@
 use Rattle.cadf_seal.proofs.Common.{◌∙◌, ◌+◌, [], ap, sym, rising, needs, first_digest}
-use Rattle.cadf_seal.proofs.Needed.{needed_leaf, unneeded_leaf}
-use Rattle.cadf_seal.proofs.Splitting.{last_part}
+use Rattle.cadf_seal.proofs.NeededLeaves.{needed_leaf, unneeded_leaf}
+use Rattle.cadf_seal.proofs.SplitLeaves.{last_part}
 use Rattle.cadf_seal.proofs.verify.first_unneeded.Goals as goal
 
 pub returns-then-not-is_needed : goal.returns-then-not-is_needed

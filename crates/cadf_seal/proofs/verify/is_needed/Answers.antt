@@ -1,5 +1,5 @@
 use Rattle.cadf_seal.proofs.Common.{◌∙◌, ap, Some, None, next_after, first_digest}
-use Rattle.cadf_seal.proofs.Needed.{needs_by}
+use Rattle.cadf_seal.proofs.NeededLeaves.{needs_by}
 use Rattle.cadf_seal.proofs.verify.is_needed.Goals as goal
 
 pub returns-in-Some : goal.returns-in-Some

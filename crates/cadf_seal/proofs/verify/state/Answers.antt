@@ -1,8 +1,8 @@
 use Rattle.cadf_seal.proofs.Common.{common_steps, ◌≡◌, ◌∙◌, ap, drop, rules, arith, always_returns_same, text_cmp, lowest_place}
-use Rattle.cadf_seal.proofs.Rebuilding.{all_map}
-use Rattle.cadf_seal.proofs.Sound.{places_rise}
-use Rattle.cadf_seal.proofs.Splitting.{last_part}
-use Rattle.cadf_seal.proofs.Deciding.{order_rises, state_shown, state_between, all_take, all_drop, rise_take, rise_drop}
+use Rattle.cadf_seal.proofs.RebuiltTrees.{all_map}
+use Rattle.cadf_seal.proofs.SoundProofs.{places_rise}
+use Rattle.cadf_seal.proofs.SplitLeaves.{last_part}
+use Rattle.cadf_seal.proofs.LeavesDecide.{order_rises, state_shown, state_between, all_take, all_drop, rise_take, rise_drop}
 use Rattle.cadf_seal.proofs.verify.state.Goals as goal
 
 pub returns-in-Ok : goal.returns-in-Ok

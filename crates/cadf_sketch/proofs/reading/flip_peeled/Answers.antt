@@ -1,7 +1,7 @@
 use Rattle.cadf_sketch.proofs.Common.{common_steps, ◌≡◌, ◌*◌, ◌⊎◌, length, subst, arith, apart, flipped, HasNoLone}
 use Rattle.cadf_sketch.proofs.FlipLemmas.{apart_twice}
 use Rattle.cadf_sketch.proofs.PeelLemmas.{peels_same}
-use Rattle.cadf_sketch.proofs.WholeLemmas.{peeled_are}
+use Rattle.cadf_sketch.proofs.SketchInvariant.{peeled_are}
 use Rattle.cadf_sketch.proofs.reading.flip_peeled.Goals as goal
 
 pub of-requires : goal.of-requires

@@ -1,6 +1,6 @@
 use Rattle.cadf_split.proofs.Common.{key}
-use Rattle.cadf_split.proofs.Keys.{key_of_carrier}
-use Rattle.cadf_split.proofs.Parts.{part-missing_by, missing_by_of_parts, missing_by_own, missing_by_own_parts}
+use Rattle.cadf_split.proofs.CarrierKeys.{key_of_carrier}
+use Rattle.cadf_split.proofs.PartMembers.{part-missing_by, missing_by_of_parts, missing_by_own, missing_by_own_parts}
 use Rattle.cadf_split.proofs.laws.missing_by_of_parts.Goals as goal
 
 pub returns : goal.returns

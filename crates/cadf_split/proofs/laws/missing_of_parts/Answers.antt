@@ -1,6 +1,6 @@
 use Rattle.cadf_split.proofs.Common.{key}
-use Rattle.cadf_split.proofs.Keys.{key_of_carrier}
-use Rattle.cadf_split.proofs.Parts.{part-missing, missing_of_parts}
+use Rattle.cadf_split.proofs.CarrierKeys.{key_of_carrier}
+use Rattle.cadf_split.proofs.PartMembers.{part-missing, missing_of_parts}
 use Rattle.cadf_split.proofs.laws.missing_of_parts.Goals as goal
 
 pub returns : goal.returns

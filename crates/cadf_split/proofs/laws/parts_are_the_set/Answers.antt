@@ -1,6 +1,6 @@
 use Rattle.cadf_split.proofs.Common.{key, part_keys, subst, Listed}
-use Rattle.cadf_split.proofs.Keys.{key_of_carrier}
-use Rattle.cadf_split.proofs.Parts.{part_has, parts_apart, parts_together, key_listed, listed_key, part_key, part_grounded}
+use Rattle.cadf_split.proofs.CarrierKeys.{key_of_carrier}
+use Rattle.cadf_split.proofs.PartMembers.{part_has, parts_apart, parts_together, key_listed, listed_key, part_key, part_grounded}
 use Rattle.cadf_split.proofs.laws.parts_are_the_set.Goals as goal
 
 pub returns : goal.returns

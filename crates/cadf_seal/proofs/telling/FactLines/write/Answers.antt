@@ -1,5 +1,5 @@
 use Rattle.cadf_seal.proofs.Common.{common_steps, ◌≡◌, ◌∙◌, ◌++◌, ◌+◌, ◌-◌, ap, subst, drop, arith, repeat, err_from_is_err_and, AppendsPrefix, repeated_text}
-use Rattle.cadf_seal.proofs.Repeating.{repeat_more, line_written, front_written}
+use Rattle.cadf_seal.proofs.RepeatedLines.{repeat_more, line_written, front_written}
 use Rattle.cadf_seal.proofs.telling.FactLines.write.Goals as goal
 
 pub loop-init : goal.loop-init

@@ -1,5 +1,5 @@
 use Rattle.cadf_seal.proofs.Common.{◌≡◌, ◌++◌, ◌+◌, ◌-◌, drop, repeat, repeated_text}
-use Rattle.cadf_seal.proofs.Repeating.{IsLeft}
+use Rattle.cadf_seal.proofs.RepeatedLines.{IsLeft}
 use Rattle.cadf_seal.proofs.telling.FactLines.write.Given as goal
 
 -- the lines from this one on are left to write

@@ -1,5 +1,5 @@
 use Rattle.cadf_sketch.proofs.Common.{common_steps, arith, with_items_is, cells_of, sketch_of}
-use Rattle.cadf_sketch.proofs.WholeLemmas.{sketch_parts}
+use Rattle.cadf_sketch.proofs.SketchInvariant.{sketch_parts}
 use Rattle.cadf_sketch.proofs.sketch.Sketch.of.Goals as goal
 
 pub invariant_of-result : goal.invariant_of-result

@@ -1,9 +1,9 @@
 -- What a proof with the root of leaves says of digests is so, if what is hashed doesn't collide.
 use Rattle.cadf_seal.proofs.Common.{common_steps, ◌≡◌, ◌∙◌, ◌<◌, ◌≤◌, ◌+◌, ◌-◌, ◌^◌, ℕ, zero, suc, Bool, true, false, List, [], ◌∷◌, Some, None, length, get_or, refl, ap, sym, subst, arith, inl, inr, nat_eq, if◌then◌else◌, AllByRecursion, eqb-true, ne_eqb, false_from_ne_true, sha256, Text, Listed, rising, text_total, text_same, rising_is_sorted, listed-rising, rising-listed, root, hashed, TextsDoNotCollide, Rebuilt, rebuilt, rehashed, AreRising, alone, root_from, proof_root, leaves_below, leaves_above, past_last, lowest_place, is_shown, state, IsAt, PlacesRise, ShowsLeaves, TellsTruth, Leaf}
 use Rattle.cadf_join.specs.Sets as set
-use Rattle.cadf_seal.proofs.Trees.{root_tree, below_power}
-use Rattle.cadf_seal.proofs.Rebuilding.{all_map, all_kept, shows}
-use Rattle.cadf_seal.proofs.Honest.{IsLess, AreSorted, not_less_itself, less_trans, sorted_above, sorted_rest, at_all, ahead_least, shown_listed}
+use Rattle.cadf_seal.proofs.TreeParts.{root_tree, below_power}
+use Rattle.cadf_seal.proofs.RebuiltTrees.{all_map, all_kept, shows}
+use Rattle.cadf_seal.proofs.HonestProofs.{IsLess, AreSorted, not_less_itself, less_trans, sorted_above, sorted_rest, at_all, ahead_least, shown_listed}
 
 -- ---- shown leaves are leaves
 

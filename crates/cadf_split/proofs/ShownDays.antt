@@ -1,6 +1,6 @@
 -- The instant of a body is in the years 0 to 9999, and the body of an event's atom is one.
 use Rattle.cadf_split.proofs.Common.{common_steps, ◌≡◌, ℕ, ◌<◌, ◌≤◌, true, List, ◌∷◌, refl, sym, ap, subst, ◌∙◌, arith, true≢false, ℤ, pos, neg_ℤ, ◌+ℤ◌, ◌-ℤ◌, ◌*ℤ◌, ◌≤ℤ◌, unsigned_abs, days_from_civil, day_count, IsCivilDate, signed_arith, day_count-early, days_from_civil-day_count, day_count-lt_year, SpellsTime, clock_nanos, local_nanos, offset_of, nanos_of_day, nanos_of_minute, billionths_bound, offset_small, Text, Texts, is_text, event_letter, IsAtom, event, attachment, chain, tag, atom_rules, body_rule, IsBodyText, body_instant, timed, length, get_or, cond, Bor, ⊤, texts_at, Unit, day_number, IsShownDay, window, shared_key, key}
-use Rattle.cadf_split.proofs.Dates.{year_zero}
+use Rattle.cadf_split.proofs.CivilDates.{year_zero}
 
 -- ---- instants
 

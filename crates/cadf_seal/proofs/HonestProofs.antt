@@ -1,8 +1,8 @@
 -- The proof that is made for facts: its root is that of all leaves, it decides each fact, and facts need each shown leaf.
 use Rattle.cadf_seal.proofs.Common.{common_steps, ◌≡◌, ◌∙◌, ◌<◌, ◌≤◌, ◌+◌, ◌-◌, ℕ, zero, suc, max, min, Bool, true, false, cond, List, [], ◌∷◌, Option, Some, None, length, get_or, refl, ap, sym, subst, arith, inl, inr, true≢false, append-nil, rules, ◌⊎◌, ◌&&◌, ◌||◌, nat_eq, if◌then◌else◌, filter, AllByRecursion, IsStrictlySortedBy, is_lt, is_eq, ordering_reverse, Ordering, Less, Equal, tied_itself, eq-eqb, ne_eqb, false_from_ne_true, sha256, Text, text_cmp, Listed, rising, text_total, text_same, and_both, or_cases, rising_is_sorted, listed-rising, rising-listed, InventoryModel, root, first_leaf, is_above, is_below, needs, shown, hidden, all_hidden, rebuilt, alone, root_from, proof_root, leaves_below, leaves_above, past_last, lowest_place, is_shown, state, first_digest, unneeded, IsAt, TellsAll, Leaf}
 use Rattle.cadf_join.specs.Sets as set
-use Rattle.cadf_seal.proofs.Trees.{root_none, root_tree, below_power}
-use Rattle.cadf_seal.proofs.Rebuilding.{all_map, all_kept, rebuilds}
+use Rattle.cadf_seal.proofs.TreeParts.{root_none, root_tree, below_power}
+use Rattle.cadf_seal.proofs.RebuiltTrees.{all_map, all_kept, rebuilds}
 
 -- ---- the order of digests
 

@@ -1,6 +1,6 @@
 -- Which shown leaves facts need, by the least fact above the leaf before; and the first of some facts with a state.
 use Rattle.cadf_seal.proofs.Common.{common_steps, ◌≡◌, ◌∙◌, ◌<◌, ◌+◌, ℕ, Bool, true, false, cond, List, [], ◌∷◌, Option, Some, None, length, drop, get_or, refl, ap, sym, arith, true≢false, ◌&&◌, ◌||◌, if◌then◌else◌, find, AllByRecursion, drop_more, false_from_ne_true, Text, text_cmp, is_after, next_after, rising, text_total, text_same, rising_is_sorted, Digests, is_above, is_below, needs, first_digest, unneeded, Leaf}
-use Rattle.cadf_seal.proofs.Honest.{IsLess, AreSorted, less_trans, sorted_above, sorted_rest}
+use Rattle.cadf_seal.proofs.HonestProofs.{IsLess, AreSorted, less_trans, sorted_above, sorted_rest}
 
 below_less : (behind : Option Text) (d e : Text) → IsLess d e → is_below behind e ≡ true → is_below behind d ≡ true
 below_less behind d e less h = grind (arith, common_steps, less_trans)

@@ -1,7 +1,7 @@
 -- Leaves with the same root are the same, if what is hashed for them doesn't collide.
 use Rattle.cadf_seal.proofs.Common.{common_steps, ◌≡◌, ◌∙◌, ◌<◌, ◌≤◌, ◌-◌, ◌^◌, ◌++◌, ℕ, zero, suc, Bool, true, false, List, [], ◌∷◌, length, take, drop, get_or, refl, ap, sym, subst, arith, length-drop, inl, inr, nat_le, if◌then◌else◌, leb-false, length-take-le, take_at, append_cancel_left, take-append-drop, one-le-pow, sha256, length-sha256, Text, Listed, rising, listed_left, listed_right, InventoryModel, set_again, tree, hashed, TextsDoNotCollide, RootDetermines, seal_of}
 use Rattle.cadf_join.specs.Sets as set
-use Rattle.cadf_seal.proofs.Trees.{tree_beyond, root_tree, below_power, doubled}
+use Rattle.cadf_seal.proofs.TreeParts.{tree_beyond, root_tree, below_power, doubled}
 
 -- ---- what is hashed
 

@@ -1,8 +1,8 @@
 -- One line of membership for the values of a key and for the parts of a body.
 use Rattle.cadf_set.proofs.Common.{common_steps, ◌≡◌, [], ◌∷◌, sym, subst, ◌∙◌, arith, ◌↔◌, Contains, Listed, rising, Text, Texts, Contents, Has, suffixes_of, texts_total, texts_same, contains-section, listed-rising, rising-listed, event_letter, filter_map_listed, strip, only, values, parts}
 use Rattle.cadf_join.specs.Sets as set
-use Rattle.cadf_set.proofs.Again.{value_is, value_listed}
-use Rattle.cadf_set.proofs.Behind.{behind_four}
+use Rattle.cadf_set.proofs.ShownAgain.{value_is, value_listed}
+use Rattle.cadf_set.proofs.AfterPrefix.{behind_four}
 use Rattle.cadf_set.proofs.History.{listed_contains, contains_listed}
 
 pub listed_value : (s : Contents) (letter key x : Text) → Listed x (values s letter key) → Has s (letter ∷ key ∷ x ∷ [])

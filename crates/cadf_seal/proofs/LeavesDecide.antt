@@ -1,8 +1,8 @@
 -- What shown leaves say of a digest, by the number of those that are below it.
 use Rattle.cadf_seal.proofs.Common.{common_steps, ◌≡◌, ◌∙◌, ◌<◌, ◌≤◌, ◌-◌, ℕ, zero, suc, Bool, true, false, List, [], ◌∷◌, Some, None, length, take, drop, refl, ap, sym, subst, arith, true≢false, ◌||◌, nat_eq, nat_lt, slice_index_or, if◌then◌else◌, AllByRecursion, HoldsAt, IsNonDecreasingBy, IsPartitionPoint, is_lt, is_eq, ordering_index, tied_itself, ltb-true, ltb-false, Ordering, Less, Equal, Greater, Text, text_cmp, text_total, text_same, AreRising, PlacesRise, leaves_below, leaves_above, past_last, lowest_place, is_shown, state, Leaf}
-use Rattle.cadf_seal.proofs.Rebuilding.{all_map}
-use Rattle.cadf_seal.proofs.Honest.{IsLess, is_less, less_trans, not_greater, is_greater, or_true}
-use Rattle.cadf_seal.proofs.Splitting.{first_part, second_part}
+use Rattle.cadf_seal.proofs.RebuiltTrees.{all_map}
+use Rattle.cadf_seal.proofs.HonestProofs.{IsLess, is_less, less_trans, not_greater, is_greater, or_true}
+use Rattle.cadf_seal.proofs.SplitLeaves.{first_part, second_part}
 
 -- digests rise
 abbrev DigestsRise : List Leaf → Type 0

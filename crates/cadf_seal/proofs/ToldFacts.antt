@@ -1,7 +1,7 @@
 -- Of facts that are told, each is in the sealed set or not, as was asked.
 use Rattle.cadf_seal.proofs.Common.{common_steps, ◌≡◌, ◌∙◌, ℕ, ◌+◌, Bool, true, false, not, List, [], ◌∷◌, map, Option, Some, None, Ok, sym, subst, inl, inr, true≢false, arith, option_map, option_or, position_from, AllByRecursion, eqb-true, false_from_ne_true, bytes_eq-Decides, Text, Texts, Contents, Has, Listed, rising, texts_total, texts_same, rising-listed, atom_digest, digests_of, known_digest, digest_of_some, InventoryModel, inventory_of, state, is_state, verify_fault_unless, is_root, text_unless, IsOf, FactsAreSo, VerifyFault}
 use Rattle.cadf_join.specs.Sets as set
-use Rattle.cadf_seal.proofs.Sound.{tells_truth}
+use Rattle.cadf_seal.proofs.SoundProofs.{tells_truth}
 
 no_fault : (r : Option VerifyFault) (text t : List ℕ) → text_unless r text ≡ Ok t → r ≡ None
 no_fault r text t e = grind (arith, common_steps)

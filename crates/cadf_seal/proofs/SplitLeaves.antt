@@ -1,7 +1,7 @@
 -- The shown leaves before a place and the others, as the parts of a list; and the hash of a tree, one step at a time.
 use Rattle.cadf_seal.proofs.Common.{common_steps, ◌≡◌, ◌∙◌, ◌<◌, ◌≤◌, ◌+◌, ◌-◌, ◌^◌, ℕ, zero, suc, Bool, true, false, cond, List, [], ◌∷◌, ◌≢◌, length, take, drop, refl, ap, sym, arith, length-drop, nat_le, nat_lt, ◌==◌, slice_index_or, if◌then◌else◌, then_some, filter, AllByRecursion, IsPartitionPoint, IsPartitionedBy, le-leb, lt-leb, lt-ltb, ltb-true, ltb-false, eq-eqb, ne_eqb, take_all, sha256, Text, until, leaves_from, rebuilt, ProofModel, PlacesRise, alone, root_from, proof_root, Leaf}
-use Rattle.cadf_seal.proofs.Rebuilding.{rise_kept}
-use Rattle.cadf_seal.proofs.Trees.{below_power, within_more}
+use Rattle.cadf_seal.proofs.RebuiltTrees.{rise_kept}
+use Rattle.cadf_seal.proofs.TreeParts.{below_power, within_more}
 
 place_at_least : (m : ℕ) (ss : List Leaf) (k : ℕ) (d : Leaf) → k < length ss → AllByRecursion (λ t. m < t.place) ss → m ≤ (slice_index_or ss k d).place
 place_at_least m ss k d low h = grind (arith, common_steps)

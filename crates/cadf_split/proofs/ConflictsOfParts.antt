@@ -1,7 +1,7 @@
 -- Which parts have the values of a conflicted key.
 use Rattle.cadf_split.proofs.Common.{◌≡◌, ◌⊎◌, true, List, [], ◌∷◌, length, refl, sym, ap, ◌∙◌, subst, inl, inr, true≢false, arith, le-leb, ◌≢◌, nat_le, is_eq, Less, Equal, tied_itself, bytes_decides, IsStrictlySortedBy, Listed, Text, Texts, Contents, text_cmp, Has, text_total, AllByRecursion-listed, is_text, values, is_conflicted, value_listed, values_rise, listed_value, part_by, IsInTwoParts}
 use Rattle.cadf_join.proofs.Members as members
-use Rattle.cadf_split.proofs.Parts.{in_part, part_has, part_key}
+use Rattle.cadf_split.proofs.PartMembers.{in_part, part_has, part_key}
 
 -- ---- two values
 

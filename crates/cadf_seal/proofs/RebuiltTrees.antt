@@ -1,7 +1,7 @@
 -- The tree that is rebuilt from shown leaves and the hashes of hidden subtrees, and the tree over all leaves.
 use Rattle.cadf_seal.proofs.Common.{common_steps, ◌≡◌, ◌∙◌, ◌<◌, ◌≤◌, ◌+◌, ◌-◌, ◌^◌, ◌++◌, ℕ, zero, suc, Bool, true, false, cond, List, [], ◌∷◌, Some, length, take, drop, get_or, refl, ap, sym, subst, arith, length-drop, append_assoc, inl, inr, true≢false, nat_le, nat_lt, if◌then◌else◌, filter, AllByRecursion, leb-true, leb-false, le-leb, ltb-true, ltb-false, length-take-le, get_or-take, get_or-drop, length-sha256, Text, Listed, listed_left, listed_right, leaf_hash, node_hash, tree, hashed, TextsDoNotCollide, until, leaves_from, hidden, Rebuilt, next_hash, node_beside, node_of, rebuilt, hash_of, rest_of_rebuilt, rehashed, IsAt, PlacesRise, Leaf}
-use Rattle.cadf_seal.proofs.Trees.{tree_beyond, doubled}
-use Rattle.cadf_seal.proofs.Determined.{node_text, of_halves, hashed_at, long, halves_of}
+use Rattle.cadf_seal.proofs.TreeParts.{tree_beyond, doubled}
+use Rattle.cadf_seal.proofs.DeterminedLeaves.{node_text, of_halves, hashed_at, long, halves_of}
 
 -- ---- some of a list
 
