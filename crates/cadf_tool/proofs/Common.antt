@@ -56,19 +56,19 @@ pub use Rattle.cadf_linefile.specs.declared.fault.FileFault.{FileFault}
 pub use Rattle.cadf_linefile.specs.declared.fault.FileFault.TheVariants.{ReadFault as FileReadFault, TooLarge as FileTooLarge, Trailing}
 pub use Rattle.cadf_linefile.specs.declared.file_feed.TheConstants.{FILE_LIMIT}
 pub use Rattle.cadf_log.proofs.OneDocument.{one_document_each}
-pub use Rattle.cadf_log.proofs.Texts.{conflicts_have_one, conflicts_read as list_is_read, log_again, log_read as log_is_read, log_read, log_text_has_one, one_value, texts_tell}
+pub use Rattle.cadf_log.proofs.TwoTexts.{conflicts_have_one, conflicts_read as list_is_read, log_again, log_read as log_is_read, log_read, log_text_has_one, one_value, texts_tell}
 pub use Rattle.cadf_log.specs.ReadBack.{IsConflictTextOf, IsLogTextOf}
 unfoldable pub use Rattle.cadf_log.specs.Texts.{log_text}
 pub use Rattle.cadf_rehearsal.specs.declared.turn.Turn.{Turn as Step}
 pub use Rattle.cadf_scan.specs.Instants.{body_instant}
 pub use Rattle.cadf_seal.specs.ProofFile.{ProofModel}
 pub use Rattle.cadf_seal.specs.SealFile.{SealModel, seal_file}
-pub use Rattle.cadf_set.proofs.Again.{in_order_retain}
 pub use Rattle.cadf_set.proofs.ContributionLaws.{document_kept, kept_empty, kept_union, ruling_kept}
 pub use Rattle.cadf_set.proofs.History.{apart_by_digests, apart_by_replicas, contains_listed, in_union_all, listed_contains, listed_within, of_union_all, replica_is_held, same_held, union_all_append}
-pub use Rattle.cadf_set.proofs.Membership.{listed_value}
-pub use Rattle.cadf_set.proofs.Shown.{apart, apart as parts_apart, together as parts_together, together}
-pub use Rattle.cadf_set.proofs.Takes.{next_taken}
+pub use Rattle.cadf_set.proofs.InLogOrConflicts.{apart, apart as parts_apart, together as parts_together, together}
+pub use Rattle.cadf_set.proofs.ShownAgain.{in_order_retain}
+pub use Rattle.cadf_set.proofs.TakenParts.{next_taken}
+pub use Rattle.cadf_set.proofs.ValueMembers.{listed_value}
 pub use Rattle.cadf_set.specs.History.{History, IsByReplicas, IsHistory, held, replica_of}
 pub use Rattle.cadf_set.specs.Inventory.{AreDigests, InventoryModel}
 pub use Rattle.cadf_set.specs.Replica.{ReplicaModel}
@@ -80,8 +80,8 @@ pub use Rattle.cadf_sketch.specs.Layouts.{LayoutModel, are_cells, default_cells,
 pub use Rattle.cadf_sketch.specs.SketchFile.{sketch_file}
 pub use Rattle.cadf_sketch.specs.Sketches.{SketchModel, asked, own_salt}
 unfoldable pub use Rattle.cadf_sketch.specs.Sketches.{sketch_of}
-pub use Rattle.cadf_split.proofs.Keys.{key_of_carrier}
-pub use Rattle.cadf_split.proofs.Parts.{in_part, key_listed, part-union, part_has, part_key}
+pub use Rattle.cadf_split.proofs.CarrierKeys.{key_of_carrier}
+pub use Rattle.cadf_split.proofs.PartMembers.{in_part, key_listed, part-union, part_has, part_key}
 pub use Rattle.cadf_split.specs.Split.{noted_lines, part_line, part_lines, replica_of_part, split_head, split_text}
 pub use Rattle.cadf_split.specs.Windows.{key, part, part_keys, shared_key, window, window_of}
 pub use Rattle.cadf_split.specs.declared.unit.Unit.{Unit}
