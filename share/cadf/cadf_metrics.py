@@ -21,7 +21,7 @@ from cadf_keys import Files, at_once
 from cadf_logs import atoms
 from cadf_rulings import standing
 from cadf_state import seen_rulings
-from cadf_toolkit import (DIFFERS, DONE, FAILED, MEMORY, REFUSED, Fault, cadf, name_shown, naming, new_file, opened, started,
+from cadf_toolkit import (DIFFERS, DONE, FAILED, MEMORY, REFUSED, Fault, cadf, name_shown, naming, new_file, opened, say, started,
                           temporary_folder, tool)
 
 HELP = {
@@ -40,6 +40,7 @@ HELP = {
     "doubtful_windows": "Windows that were repaired by other facts than were lost, until a person removes what was kept.",
     "last_success_timestamp_seconds": "When the last run that succeeded ended.",
 }
+UNSEEN = "ruled keys at which nobody here has looked: `cadf-conflicts --values SITE`, and then `cadf-conflicts --seen SITE`"
 BEGINNING, TOTAL = b"# HELP cadf_", "_total"
 NUMBER = re.compile(r"(?m)^(cadf_\w+\{.*\}) (\d{1,18})$")
 COUNTED = re.compile(r"(?m): open (\d+), settled \d+(?:, unknown \d+)?(?:, unseen (\d+))?$")  # what cadf-conflicts says at its end
@@ -101,8 +102,12 @@ def largest_window(name):
 
 
 def of_site(name):
-    """The numbers of a site."""
-    return [*conflicts(name), ("largest_window_bytes", {}, largest_window(name))]
+    """The numbers of a site. Says how many ruled keys are unseen."""
+    found = conflicts(name)
+    for number, _, count in found:
+        if number == "unseen_rulings" and count:
+            say("%s: %d %s" % (name_shown(name), count, UNSEEN))
+    return [*found, ("largest_window_bytes", {}, largest_window(name))]
 
 
 def conflicts(name):

@@ -267,7 +267,9 @@ def test_the_status_of_what_nobody_has_looked_at(sites):
     sites.take("other.cadf")
     assert sites.says()[2] == "open 0, settled 2, unseen 2"
     status, output, _ = sites.run("sync", "--conflicts", "north/", "south/")
-    assert status == 5 and output.endswith("; 0 open conflicts; 2 ruled keys at which nobody here has looked: `cadf-conflicts --seen`\n")
+    said = "2 ruled keys at which nobody here has looked: `cadf-conflicts --values SITE`, and then `cadf-conflicts --seen SITE`"
+    assert status == 5 and output.endswith("; 0 open conflicts; %s\n" % said)
+    assert sites.run("sync", "--quiet", "--metrics", "m.prom", "north/", "south/") == (0, "", ["cadf-sync: north/: " + said])
     sites.says("--seen")
     assert sites.run("sync", "--quiet", "--conflicts", "north/", "south/") == (0, "", [])
 
