@@ -201,7 +201,7 @@ def test_agree_has_the_files_of_one_window_open_at_a_time(sites):
     assert sites.run("agree", "north", "south", **FEW) == (5, "", said)
     min(sites.north.folder.glob("2024-*.cadf")).unlink()
     status, _, said = sites.run("agree", "north", "south", **FEW)
-    assert status == 3 and "not there: the site is damaged" in said[0]
+    assert status == 1 and "not there: the site is damaged" in said[-1]
 
 
 def test_agree_of_a_folder_and_others_has_the_files_of_one_window_open_at_a_time(sites):
