@@ -338,7 +338,7 @@ def test_head(reports):
     """The page names the version that made it, and how the facts are in the log text and in the conflict list."""
     said = ended(reports.binary, ["--version"]).output.decode().strip()
     page = Data(reports.page("settled"))
-    assert "Made by cadf-report with %s," % said in page.text
+    assert 'Made by cadf-report with <span id="version">%s</span>,' % said in page.text
     facts, shown, listed = map(int, re.search("Of ([0-9,]+) facts the log text has ([0-9,]+), and the conflict list ([0-9,]+)[.]", page.text).groups())
     held = re.search(r"atoms (\d+)", reports.cadf("check", "settled").decode())[1]
     in_log = json.loads(reports.cadf("show", "settled"))

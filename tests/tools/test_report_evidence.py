@@ -159,25 +159,25 @@ def test_paper(place, driver, page):
     assert said["filters"] == "outcome: success; until: 2024-03-02"
     assert said["rows"] == "1 of 4 events"
     assert [said["SHA-256 of the log text"], said["SHA-256 of the conflict list"]] == head.digests()
-    root = re.search(r"\nR ([0-9a-f]{64})\n", place.run("cadf", "seal", "evidence.json").decode())[1]
-    assert said["root of the seal of all 4 facts"] == root
+    assert said["digest of all facts, as `cadf join` writes it"] == place.run("cadf", "join", "evidence.json")[-65:-1].decode()
     assert LONG in "".join(printed(driver, place.path("raw.pdf"), "-raw").split())
     for column in ("Time (UTC)", "Outcome", "Action", "Initiator", "Target", "Observer", "Identifier", "1 of "):
         assert column in text, column
     tried.one("#clear").click()
 
 
-def test_seal_of_a_range(place):
-    """The page of a range names the seal of all that its files tell, or of the folder that it is a part of."""
+@pytest.mark.parametrize("words", [[], ["--since", "2024-03-02"]])
+def test_seal(place, words):
+    """A page names the digest of all that its files tell, or the seal of its folder, also if it has a part of that."""
     for name, document in zip(("one.json", "other.json"), told_otherwise(3)):
         place.file(name, document)
-    page = Data(place.run("cadf-report", "--since", "2024-03-02", "one.json", "other.json"))
-    root = re.search(r"\nN ([0-9]+)\nR ([0-9a-f]{64})\n", place.run("bash", "-c", "cadf-take joined.cadf one.json other.json; cadf-seal joined.cadf").decode())
-    assert page.named('id="seal"><dt>([^<]*)<') == "root of the seal of all %s facts" % root[1]
-    assert page.named('id="seal"><dt>[^<]*</dt><dd><code>([^<]*)<') == root[2]
+    page = Data(place.run("cadf-report", *words, "one.json", "other.json"))
+    assert page.named('id="seal"><dt>([^<]*)<') == "digest of all facts as `cadf join` writes it"
+    assert page.named('id="seal"><dt>[^<]*</dt><dd><code>([^<]*)<') == place.run("cadf", "join", "other.json", "one.json")[-65:-1].decode()
     seal = place.run("bash", "-c", "cadf-take --by day folder one.json; cadf-seal folder").decode()
-    page = Data(place.run("cadf-report", "--since", "2024-03-02", "folder"))
+    page = Data(place.run("cadf-report", *words, "folder"))
     counts = sum(int(count) for count in re.findall(r"^W \S+ ([0-9]+) ", seal, re.MULTILINE))
-    assert page.named('id="seal"><dt>([^<]*)<') == "digest of the seal of the folder of %d facts by day" % counts
+    assert page.named('id="seal"><dt>([^<]*)<') == "seal of the folder of %d facts by its digest" % counts
     assert page.named('id="seal"><dt>[^<]*</dt><dd><code>([^<]*)<') == seal.splitlines()[-1][2:]
-    assert Data(place.run("cadf-report", "folder")).named('id="seal"><dt>([^<]*)<') == "root of the seal of all %d facts" % counts
+    page = Data(place.run("cadf-report", *words, "folder", "other.json"))
+    assert page.named('id="seal"><dt>[^<]*</dt><dd><code>([^<]*)<') == ("" if words else place.run("cadf", "join", "other.json", "one.json")[-65:-1].decode())
