@@ -7,14 +7,12 @@ import array
 from typing import NamedTuple
 
 from cadf_index_file import planned
-from cadf_lengths import EVENTS, LETTER, mapped
 from cadf_logs import instant, utc
 from cadf_question import Question, Range
 from cadf_site import Folder, is_folder
 from cadf_times import SECOND, STEPS
 from cadf_toolkit import REFUSED, Fault
 
-BODY = b"\n[3,"
 UNITS = [STEPS[unit] // SECOND for unit in ("d", "h", "min", "s")]
 TOO_MANY = "the second {} has more bodies of events than {:,}: choose fewer, as by --initiator or --action"
 LEFT_OUT = "This page has the last {:,} of {:,} bodies of events, from {} on: --until {} makes a page of the last of the others."
@@ -80,20 +78,6 @@ def indexed_part(names, question, most):
         return False, None
     part = part_by_hours({instant(hour) // SECOND: count for hour, count in found.items()}, most)
     return part is None or part.taken <= most, part
-
-
-def count_bodies(input):
-    """How many bodies of events a replica file has."""
-    with mapped(input) as data:
-        begin = data.find(EVENTS)
-        if begin < 0:
-            return 0
-        end, place, count = data.find(LETTER, begin + 1), begin, 0
-        while True:
-            place = data.find(BODY, place + 1, end if end >= 0 else len(data))
-            if place < 0:
-                return count
-            count += 1
 
 
 class Seconds:
