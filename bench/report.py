@@ -12,6 +12,7 @@ import os
 import shutil
 import sys
 import tempfile
+import time
 
 from inputs import write_log
 from measure import TOP, asked, identifier_of, key_of, measured_in_turn, run_apart, spelled, written_apart
@@ -58,7 +59,7 @@ def canned_cadf(place, binary, document):
     conflicts = written(os.path.join(place, "conflicts"), binary, "show", "--conflicts", replica)
     path = os.path.join(place, "canned")
     with open(path, "w") as file:
-        file.write('#!/bin/sh\ncase "$1 $2" in join*) exec head -n 2 %s;; "show --conflicts") exec cat %s;; *) exec cat %s;; esac\n'
+        file.write('#!/bin/sh\ncase "$1 $2" in join*) exec cat %s;; "show --conflicts") exec cat %s;; *) exec cat %s;; esac\n'
                    % (replica, conflicts, log))
     os.chmod(path, 0o755)
     return path, replica, log
@@ -86,12 +87,14 @@ def measure_writing(place, binary, count, runs):
     return log, page
 
 
-LOADED = "return Number(document.documentElement.dataset.ready)"
+LOADED = "return Number(document.documentElement.dataset.ready || 0)"
 TIMED = "const start = performance.now(); %s; return performance.now() - start"
-SEARCH = ("const box = document.getElementById('search'), real = setTimeout; let took; window.setTimeout = action => { const start = performance.now(); action();"
-          " took = performance.now() - start; }; box.value = '10.0.3.77'; box.dispatchEvent(new Event('input')); window.setTimeout = real; return took")
+TYPED = ("const box = document.querySelector('%s'), real = setTimeout, asked = []; window.setTimeout = action => asked.push(action); box.value = '%s'; box.dispatchEvent(new Event('input'));"
+         " window.setTimeout = real; const start = performance.now(); asked.forEach(action => action()); return performance.now() - start")
 STEPS = (("filter by outcome", TIMED % "document.querySelector('#outcomes input').click()"),
-         ("sort by initiator", TIMED % "document.querySelector('[data-sort=initiator] button').click()"), ("search", SEARCH),
+         ("sort by initiator", TIMED % "document.querySelector('[data-sort=initiator] button').click()"),
+         ("search", TYPED % ("#search", "10.0.3.77")), ("search of three words", TYPED % ("#search", "user7 delete -neutron")), ("all again", TYPED % ("#search", "")),
+         ("late, for the first time", TYPED % ("#late", "5min")), ("one reporter, for the first time", TYPED % ("#via", "=relay-8")), ("initiator", TYPED % ("[data-filter=initiator]", "=user7")),
          ("who to what", TIMED % "document.getElementById('clear').click(); document.getElementById('tab-pairs').click()"))
 
 
@@ -122,6 +125,8 @@ def browsed(log, page):
         yield "JSON.parse of the log text", driver.execute_script(
             "const text = document.getElementById('log').textContent; const start = performance.now(); window.kept = JSON.parse(text); return performance.now() - start")
         driver.get("file://" + page)
+        while not driver.execute_script(LOADED):
+            time.sleep(0.05)
         yield "loading", driver.execute_script(LOADED)
         for what, script in STEPS:
             yield what, driver.execute_script(script)

@@ -34,7 +34,7 @@ share/cadf/cadf_seals.py share/cadf/cadf_site.py share/cadf/cadf_spool.py share/
 share/cadf/cadf_toolkit.py share/cadf/cadf_windows.py share/cadf/version
 share/cadf/report/conflicts.js share/cadf/report/events.js share/cadf/report/evidence.js share/cadf/report/filters.js share/cadf/report/guard.js
 share/cadf/report/page.css share/cadf/report/page.html share/cadf/report/page.js share/cadf/report/pairs.js
-share/cadf/report/sites.js share/cadf/report/timeline.js share/cadf/report/values.js
+share/cadf/report/reporters.js share/cadf/report/sites.js share/cadf/report/timeline.js share/cadf/report/values.js
 share/doc/cadf/installed share/doc/cadf/README.md share/doc/cadf/CHANGELOG.md share/doc/cadf/CONTRIBUTING.md share/doc/cadf/bench/RESULTS.md
 share/doc/cadf/sbom.spdx.json
 """

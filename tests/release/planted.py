@@ -10,7 +10,7 @@ CHANGED, INSTALLED, PACKAGES, UNITS = ("tests/package/test_%s.py -k " % name for
 CRASH, TURNS, OPENSTACK, LISTENER, COMPARED, SEALS = (
     "tests/tools/test_%s.py -k " % name for name in ("crash_order", "turns", "from_openstack", "listener", "compared", "seal"))
 PROOFS = "tests/tools/test_seal_proofs.py -k "
-REPORTS, MEANING, PARTS = ("tests/tools/test_report%s.py -k " % name for name in ("", "_meaning", "_part"))
+REPORTS, MEANING, PARTS, EVIDENCE = ("tests/tools/test_report%s.py -k " % name for name in ("", "_meaning", "_part", "_evidence"))
 HEADER, TOLD = "tests/library/test_header.py -k ", "tests/docs/test_told.py -k "
 TOOLKIT = "tests/tools/test_toolkit.py"
 
@@ -131,10 +131,10 @@ ROWS = [
     Row("report: ten million events", "tools/cadf-report", "10 ** 6  # that", "10 ** 7  # that", PARTS + "test_as_many_as_the_page_says"),
     Row("report: a hangup is no end", "share/cadf/cadf_toolkit.py", "STOPPING = (signal.SIGHUP, ", "STOPPING = (", TURNS + "test_asked"),
     Row("page: sign of offsets", PAGE + "filters.js", '(sign === "-" ? -1 : 1)', '(sign === "-" ? 1 : -1)', MEANING + "test_times"),
-    Row("page: fractions lost", PAGE + "filters.js", "Number(fraction || 0) * 1000", "0", MEANING + "test_times"),
+    Row("page: fractions lost", PAGE + "filters.js", "Number(fraction || 0)];", "0];", MEANING + "test_times"),
     Row("page: seconds rounded", PAGE + "filters.js", "Math.floor(times[event] / 1000)", "Math.round(times[event] / 1000)", MEANING + "test_times"),
     Row("page: sorts targets by initiators", PAGE + "filters.js", "ranks = columns[chosen.sort].ranks()", 'ranks = columns[chosen.sort === "target" ? "initiator" : chosen.sort].ranks()', MEANING + "test_columns"),
-    Row("page: no filter of observers", PAGE + "filters.js", 'passes(columns[name], chosen[name] || "")', 'passes(columns[name], name === "observer" ? "" : chosen[name] || "")', MEANING + "test_columns"),
+    Row("page: no filter of observers", PAGE + "filters.js", 'columnTest(columns[name], chosen[name])', 'columnTest(columns[name], name === "observer" ? "" : chosen[name])', MEANING + "test_columns"),
     Row("page: sides swapped", PAGE + "sites.js", '["these files lack", "the other site lacks"]', '["the other site lacks", "these files lack"]', MEANING + "test_sides"),
     Row("page: no metrics", PAGE + "page.js", 'const lists = ["R", "G", "M"].map', 'const lists = ["R", "G"].map', MEANING + "test_rest"),
     Row("page: digests always right", PAGE + "page.js", "answers.every(Boolean) ?", "true ?", MEANING + "test_digests"),
@@ -145,6 +145,17 @@ ROWS = [
     Row("page: too many levels", PAGE + "timeline.js", "most / each <= 5", "most / each <= 50", MEANING + "test_levels"),
     Row("page: no faults of what was set aside", "tools/cadf-report", "texts[3:]", "[]", REPORTS + "test_set_aside"),
     Row("page: hidden characters copied", PAGE + "events.js", "copier(() => text(event).replace(ODD, escaped)", "copier(() => text(event)", MEANING + "test_copy"),
+    Row("page: contradicted events are hidden", PAGE + "filters.js", "open: true, sort:", "open: false, sort:", MEANING + "test_contradicted"),
+    Row("page: hidden ones unsaid", PAGE + "events.js", "if (hidden.length) made.append(", "if (false) made.append(", MEANING + "test_contradicted_is_never_none"),
+    Row("page: late by a fraction less", PAGE + "reporters.js", "- Number(fraction < own[1])", "", MEANING + "test_reported_after"),
+    Row("page: unwanted words wanted", PAGE + "filters.js", "isWanted: !minus,", "isWanted: true,", MEANING + "test_search"),
+    Row("page: spellings of a character differ", PAGE + "filters.js", 'string.normalize("NFC") : string).toLowerCase()', "string : string).toLowerCase()", MEANING + "test_search"),
+    Row("page: one name of an identifier", PAGE + "filters.js", "const known = name || other ? this.ofParties", "const known = other ? this.ofParties", MEANING + "test_names_of_one_identifier"),
+    Row("page: borders of months by their mean", PAGE + "timeline.js", "if (every < MONTH) {", "if (every < 1000 * YEAR) {", MEANING + "test_ticks"),
+    Row("page: links of any length", PAGE + "evidence.js", "value.length > MOST_VALUE || ", "", EVIDENCE + "test_links"),
+    Row("page: a spreadsheet runs a field", PAGE + "evidence.js", """FORMULA.test(field) ? "'" + field : field""", "field", EVIDENCE + "test_saved_csv"),
+    Row("page: a print without its question", PAGE + "page.js", "printQuestion(); print(true);", "print(true);", EVIDENCE + "test_paper"),
+    Row("report: a part with a day too many", "share/cadf/cadf_part.py", "(rising[-most - 1] // unit + 1) * unit", "rising[-most - 1] // unit * unit", PARTS + "test_parts"),
     Row("page: a print says one page", PAGE + "events.js", "const room = printing ? Math.max(1, items.length) : size", "const room = size", MEANING + "test_printed"),
     # ---- The library
     Row("header: C++ names", "bindings/c/cadf.h", 'extern "C" {', 'extern "C++" {', HEADER + "test_wrappers"),

@@ -54,6 +54,112 @@ def test_times(opened):
     assert shown_times(tried) == wanted
 
 
+def events_of(*members):
+    return {"id": "g", "events": [{name: value for name, value in dict(EVENT, id="e%d" % at, **each).items() if name != "initiatorId" or "initiator" not in each}
+                                  for at, each in enumerate(members)]}
+
+
+SEARCHED = events_of(
+    {"initiator": {"id": "u1", "name": "alice"}, "action": "delete"}, {"initiator": {"id": "alice", "name": "bob"}, "outcome": "failure"},
+    {"initiatorId": "u3", "note": "delete two  words", "tags": ["t-1"]}, {"initiator": {"id": "u4", "name": "caf\u00e9"}}, {"initiator": {"id": "u4", "name": "cafe\u0301 bar"}})
+
+
+@pytest.mark.parametrize("typed, found", [
+    ("alice", "01"), ("alice delete", "0"), ("delete alice", "0"), ("delete", "02"), ("delete -alice", "2"), ("-delete", "134"), ("-alice -u4", "2"),
+    ('"two  words"', "2"), ('"two words"', ""), ('-"two  words" delete', "0"), ("outcome:failure", "1"), ("-outcome:failure alice", "0"), ("initiator:alice", "01"),
+    ("initiator:=alice", "01"), ("initiator:=u4", "34"), ("-initiator:u", "1"), ('initiator:="cafe\u0301 bar"', "4"), ("CAF\u00c9", "34"), ("cafe\u0301", "34"), ("id:e3", "3"), ("tag:t-1", "2"),
+    ("nothing:alice", ""), ("nowhere", ""), ("-", "01234"), ("http://schemas", "01234"), ('"', "01234"), ("type:activity", "01234"), ("-type:activity", "")])
+def test_search(opened, typed, found):
+    """Words, of which each is wanted, or unwanted with a `-` before it; in quotes, or of a field; names and identifiers alike, in either spelling."""
+    tried = opened("searched", SEARCHED)
+    tried.type("#search", typed)
+    rows = tried.js("return [...document.querySelectorAll('tr.event .printed')].map(cell => cell.textContent)")
+    assert rows == ["e" + each for each in found]
+
+
+def test_words_of_a_search(opened):
+    """Twenty words are looked for; a field with more is marked, and the others are not."""
+    tried = opened("words", SEARCHED)
+    tried.type("#search", "e " * 20)
+    assert (tried.one("#search").get_attribute("aria-invalid"), tried.listed()) == ("false", 5)
+    tried.type("#search", "nowhere")
+    assert (tried.one("#search").get_attribute("aria-invalid"), tried.listed()) == ("true", 5)
+
+
+def test_names_of_one_identifier(opened):
+    """A filter takes each name of an identifier, and columns sort by what stands first: the name."""
+    tried = opened("names", SEARCHED)
+    tried.type("[data-filter=initiator]", "=cafe\u0301 bar")
+    assert [row[3] for row in tried.js(ROWS)] == ["cafe\u0301 bar u4"]
+    tried.one("#clear").click()
+    tried.one("th[data-sort=initiator] button").click()
+    assert [row[3] for row in tried.js(ROWS)] == ["alice u1", "bob alice", "cafe\u0301 bar u4", "caf\u00e9 u4", "u3"]
+    tried.show("pairs")
+    assert tried.texts("#panel-pairs table.pairs tbody .number button") == ["1", "2", "1", "1"]
+
+
+REPORTED = [("2024-03-01T12:00:00.5Z", "2024-03-01T13:00:00.4Z", "59 min 59 s", "3600s"), ("2024-03-01T12:00:00.5Z", "2024-03-01T13:00:00.5Z", "1 h", "3601s"),
+            ("2024-03-01T12:00:00Z", "2024-03-01T11:59:59Z", "\u22121 s", "0s"), ("2024-03-01T12:00:00+02:00", "2024-03-02T12:00:00Z", "1 d 2 h", "2d")]
+
+
+def test_reported_after(opened):
+    """How long after its time an event was reported last; a filter takes those that came so late or later, by the nanosecond."""
+    log = events_of(*({"eventTime": time, "reporterchain": [{"role": "observer", "reporterId": "s", "reporterTime": reported}]} for time, reported, _, _ in REPORTED),
+                    {"eventTime": "2024-03-01T12:00:01Z", "reporterchain": [{"role": "observer", "reporterId": "s"}]})
+    shown = {"e%d" % at: said for at, (_, _, said, _) in enumerate(REPORTED)}
+    tried = opened("reported", log)
+    rows = "return Object.fromEntries([...document.querySelectorAll('tr.event')].map(row => [row.querySelector('.printed').textContent, row.querySelector('.late').textContent]))"
+    assert tried.js(rows) == {**shown, "e4": ""}
+    for at, (_, _, _, more) in enumerate(REPORTED):
+        tried.type("#late", more)
+        assert "e%d" % at not in tried.js(rows), more
+        tried.one("#clear").click()
+    tried.type("#late", "1h")
+    assert tried.js(rows).keys() == {"e1", "e3"}
+    tried.one("#clear").click()
+    tried.type("#late", "soon")
+    assert tried.one("#late").get_attribute("aria-invalid") == "true" and tried.listed() == 5
+    tried.one("#clear").click()
+    tried.one("th[data-sort=late] button").click()
+    assert tried.js("return [...document.querySelectorAll('tr.event .printed')].map(cell => cell.textContent)") == ["e4", "e2", "e0", "e1", "e3"]
+
+
+@pytest.mark.parametrize("first, last, ticks", [
+    ("2023-11-20", "2024-11-05", ["2024-01", "2024-04", "2024-07", "2024-10"]), ("2024-01-31", "2024-08-02", ["2024-02", "2024-03", "2024-04", "2024-05", "2024-06", "2024-07", "2024-08"]),
+    ("1999-06-01", "2008-01-01", ["2000", "2001", "2002", "2003", "2004", "2005", "2006", "2007", "2008"])])
+def test_ticks(opened, first, last, ticks):
+    """Over months and years the timeline has borders where these begin."""
+    tried = opened("ticks", events_of({"eventTime": first + "T07:30:00Z"}, {"eventTime": last + "T00:00:00Z"}))
+    said = tried.texts("#histogram .axis:not(.scale) text")
+    assert said == ticks[-len(said):] or said == ticks[:len(said)] and len(said) >= len(ticks) - 1, said
+
+
+@pytest.mark.parametrize("text, shown", [
+    ("\u0645\u06cc\u200c\u062e\u0648\u0627\u0647\u0645", None), ("\u0915\u094d\u200d\u0937", None), ("\U0001f469\u200d\U0001f680", None), ("\u2764\ufe0f\u200d\U0001f525", None),
+    ("ad\u200dmin", "adU+200Dmin"), ("ad\u200cmin", "adU+200Cmin"), ("\u0645\u200c", "\u0645U+200C"), ("a\ufe0f", "aU+FE0F"), ("\U0001f469\u200dx", "\U0001f469U+200Dx")])
+def test_joiners(opened, text, shown):
+    """A joiner stands where a word or a picture needs it; elsewhere it is named, as whatever can't be seen."""
+    tried = opened("joiners", events_of({"initiatorId": text}))
+    assert tried.texts("tr.event td:nth-child(4)") == [shown or text]
+
+
+def test_narrow(place, driver):
+    """On a narrow window an event is a card with all of it, and no control is smaller than 24 pixels."""
+    driver.execute_cdp_cmd("Emulation.setDeviceMetricsOverride", {"width": 390, "height": 800, "deviceScaleFactor": 1, "mobile": False})
+    try:
+        tried = Tried(driver, place.page("narrow", place.file("narrow.json", document()))).ready()
+        right = tried.js("return [...document.querySelectorAll('tr.event:first-of-type td')].filter(cell => cell.getClientRects().length).map(cell => Math.ceil(cell.getBoundingClientRect().right))")
+        assert len(right) >= 6 and max(right) <= 390, right
+        small = ("return [...document.querySelectorAll('button, input, select, summary')].map(each => each.closest('label.switch, label.pick') || each).filter(each => each.getClientRects().length)"
+                 ".map(each => [each.textContent || each.id, each.getBoundingClientRect().width, each.getBoundingClientRect().height]).filter(([, width, height]) => Math.min(width, height) < 24)")
+        for tab in tried.all("[role=tab]"):
+            tab.click()
+            assert tried.js(small) == [], tab.text
+            assert tried.js("return [...document.querySelectorAll('[role=tabpanel]:not([hidden]) table')].filter(each => !each.caption).length") == 0, tab.text
+    finally:
+        driver.execute_cdp_cmd("Emulation.clearDeviceMetricsOverride", {})
+
+
 CONTRADICTED = [dict(EVENT, id="x", action=action, outcome=outcome, eventTime="2024-03-01T12:00:00.3Z", initiatorId="b", targetId="y")
                 for action, outcome in (("delete", "failure"), ("read", "success"))]
 
@@ -75,7 +181,7 @@ def test_contradicted(opened):
     assert tried.texts(".opened .compare tbody td") == ['"delete"', '"read"', '"failure"', '"success"']
     tried.show("pairs")
     assert tried.texts(".matrix tbody td") == ["\u2260 1/1"] * 4
-    assert "\u2260 marks bodies of contradicted events." in tried.texts("caption")[0]
+    assert "\u2260 marks bodies of contradicted events." in tried.texts(".matrix caption")[0]
 
 
 def test_contradicted_is_never_none(opened):

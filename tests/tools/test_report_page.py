@@ -252,12 +252,12 @@ def test_pairs(driver, plain_page):
             assert cell == ("{0:,}/{1:,}" if failed else "{1:,}").format(failed, every), (initiator, target, cell)
     failures = [added(pairs, initiator, None)[0] for initiator in heads]
     assert failures == sorted(failures, reverse=True), failures
-    assert "All 1,500 events are counted." in tried.texts("caption")[0], tried.texts("caption")
+    assert "All 1,500 events are counted." in tried.texts(".matrix caption")[0], tried.texts(".matrix caption")
     for row, cell, pair in ((3, 3, (heads[0], targets[1])), (2, 4, (heads[1], targets[0])), (1, 3, (heads[0], None)), (4, 2, (None, targets[2]))):
         tried.one(".matrix tbody tr:nth-child(%d) > :nth-child(%d) button" % (row, cell)).click()
         assert tried.listed() == added(pairs, *pair)[1], (pair, tried.listed())
         tried.show("pairs")
-        assert "Only the {:,} events of 1,500 that pass".format(added(pairs, *pair)[1]) in tried.texts("caption")[0], tried.texts("caption")
+        assert "Only the {:,} events of 1,500 that pass".format(added(pairs, *pair)[1]) in tried.texts(".matrix caption")[0], tried.texts(".matrix caption")
         tried.one("#clear").click()
 
 

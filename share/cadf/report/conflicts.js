@@ -241,7 +241,7 @@ function compareTable(kind, values, from, turn, head) {
   if (result.differing.length > 500) foot.append(make("tr", {}, make("td", {colspan: some.length + 1, class: "minor"}, `and ${counted(result.differing.length - 500)} more paths`)));
   if (isEvent) foot.append(make("tr", {}, make("th", {scope: "row"}, "came with it"), ...some.map(({value}) => cameCell(value))));
   const heads = make("thead", {}, make("tr", {}, make("th", {scope: "col"}, "path"), ...some.map(head)));
-  const made = make("div", {}, make("div", {class: "scroll"}, make("table", {class: "compare"}, heads, body, foot)));
+  const made = make("div", {}, make("div", {class: "scroll"}, make("table", {class: "compare"}, make("caption", {class: "unseen"}, "Values side by side"), heads, body, foot)));
   if (values.length > COLUMNS) made.prepend(pager(values.length, COLUMNS, from / COLUMNS, page => turn(page * COLUMNS)));
   return [made, result];
 }
@@ -267,7 +267,7 @@ function conflictMore(at, values, {equal, flat}) {
   const more = make("details", {}, make("summary", {}, `${equal.length} ${equal.length === 1 ? "path is" : "paths are"} the same; values in full, and commands`));
   more.addEventListener("toggle", () => {
     if (more.childElementCount > 1) return;
-    more.append(make("table", {class: "compare"}, make("tbody", {}, ...equal.slice(0, 500).map(path => comparison(path, flat.slice(0, 1), false)))));
+    more.append(make("table", {class: "compare"}, make("caption", {class: "unseen"}, "Paths that are the same"), make("tbody", {}, ...equal.slice(0, 500).map(path => comparison(path, flat.slice(0, 1), false)))));
     more.append(...values.slice(0, 20).map(value => fullValue(at, value)));
     if (values.length > 20) more.append(make("p", {class: "minor"}, `and ${counted(values.length - 20)} more values`));
   });
@@ -377,7 +377,7 @@ function rulingTable() {
   });
   const heads = heading(["Kind", "Key", "SHA-256 of the value", "What it does"]);
   list(rulings.map((ruling, at) => [ruling, data.states[at]]));
-  return titled(`Rulings: ${counted(rulings.length)}`, ...(rulings.length > 50 ? [top] : []), make("div", {class: "scroll"}, make("table", {class: "pairs"}, heads, body)));
+  return titled(`Rulings: ${counted(rulings.length)}`, ...(rulings.length > 50 ? [top] : []), make("div", {class: "scroll"}, make("table", {class: "pairs"}, make("caption", {class: "unseen"}, "Rulings"), heads, body)));
 }
 
 let pickConflicts = null;   // shows these conflicts alone, once their view was filled
@@ -394,14 +394,13 @@ function conflictList(panel) {
   findPaths();
   const cards = make("div"), top = make("div", {class: "pages"});
   const everything = openFirst();
-  let group = everything, listed = everything, searched = "";
+  let group = everything, listed = everything, before = "";
   const bulk = bulkChoice(() => listed), list = paged(20, top, cards, conflictCard, () => group.length);
   const show = pick => {
-    if (!pick && (panel.hidden || searched === chosen.search && cards.childElementCount)) return;
+    if (!pick && (panel.hidden || before === chosen.search && cards.childElementCount)) return;
     group = pick || group;
-    searched = chosen.search;
-    const search = searched ? new Search(searched) : null;
-    listed = search ? group.filter(at => search.finds(conflicts[at]) || data.shown[at] !== 0 && search.finds(data.shown[at][0])) : group;
+    before = chosen.search;
+    listed = searched(group, at => [conflicts[at], ...(data.shown[at] === 0 ? [] : [data.shown[at][0]])]);
     list(listed);
     bulk.fill();
   };

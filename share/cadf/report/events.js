@@ -163,12 +163,12 @@ function detail(event) {
 
 const SIZE = 100, LONGEST_NAME = 1024;   // bytes of an identifier, so characters at most
 const opened = new Set();   // events that are shown in full when their row is in view
-const HEADS = [["time", "Time (UTC)"], ["outcome", "Outcome"], ["action", "Action"], ["initiator", "Initiator"], ["target", "Target"], ["observer", "Observer"]];
+const HEADS = [["time", "Time (UTC)"], ["outcome", "Outcome"], ["action", "Action"], ["initiator", "Initiator"], ["target", "Target"], ["observer", "Observer"], ["late", "Reported after"]];
 
 /** Makes a cell for a party: its name, and its identifier. */
 function partyCell(event, role) {
   const [identifier, name] = party(events[event], role);
-  const made = make("td", {class: "party", title: cut(named(name ? name + "\n" + identifier : identifier), 400)});
+  const made = make("td", {class: "party", "data-label": role, title: cut(named(name ? name + "\n" + identifier : identifier), 400)});
   const both = name && name !== identifier;
   if (both) put(made, cut(name, LONGEST_NAME)).append(" ");
   return put(made, cut(identifier, LONGEST_NAME), both ? "small" : "bdi");
@@ -196,7 +196,7 @@ function row(event) {
   };
   const outcomeCell = put(make("td", {class: "outcome"}, chip(outcome), " "), columns.outcome.of(event));
   made.append(make("td", {class: "time"}, opener), outcomeCell, actionCell(event), ...PARTIES.map(role => partyCell(event, role)),
-    put(make("td", {class: "printed"}), plain(member(events[event], "id"))));
+    make("td", {class: "late"}, lagText(lag(events[event]))), put(make("td", {class: "printed"}), plain(member(events[event], "id"))));
   made.addEventListener("click", click => { if (!opener.contains(click.target) && !String(getSelection())) open(); });
   rows.append(made);
   if (opened.has(event)) open();
@@ -214,12 +214,12 @@ function head([name, label]) {
 
 /** Makes the filter of a column: a choice for actions, else a text with suggestions. */
 function filterOf([name, label]) {
-  if (name === "time" || name === "outcome") return make("td");
+  if (["time", "outcome", "late"].includes(name)) return make("td");
   const column = columns[name], counts = column.counts();
   const often = column.texts.map((_, number) => number).filter(number => !column.texts[number].match(ODD))
     .sort((a, b) => counts[b] - counts[a] || a - b).slice(0, 300);   // a browser shows an option as it is
   const list = make("datalist", {id: "known-" + name});
-  for (const number of often) list.append(make("option", {value: "=" + column.texts[number]}, named(column.names[number] || "") + " (" + counted(counts[number]) + ")"));
+  for (const number of often) list.append(make("option", {value: "=" + (column.names[number] || column.texts[number])}, named(column.names[number] && column.texts[number]) + " (" + counted(counts[number]) + ")"));
   const input = make("input", {"data-filter": name, list: list.id, placeholder: "contains, or =exactly", "aria-label": "Filter by " + label, spellcheck: "false", autocomplete: "off"});
   input.addEventListener("input", calmed(() => { chosen[name] = input.value; update(); }));
   return make("td", {}, input, list);
@@ -250,7 +250,7 @@ const heading = (labels, numeric = []) => make("thead", {}, make("tr", {}, ...la
 function eventsPanel(panel) {
   const body = make("tbody"), top = make("div", {class: "pages"});
   const heads = make("thead", {}, make("tr", {}, ...HEADS.map(head), make("th", {scope: "col", class: "printed"}, "Identifier")), make("tr", {class: "filters"}, ...HEADS.map(filterOf)));
-  const table = make("table", {class: fine ? "events fine" : "events"}, heads, body);
+  const table = make("table", {class: fine ? "events fine" : "events"}, make("caption", {class: "unseen"}, "Events that pass the filters"), heads, body);
   const list = paged(SIZE, top, body, row, () => chosen.open ? events.length : inLog.length);
   const note = make("div");
   const show = () => {

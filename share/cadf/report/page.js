@@ -6,7 +6,7 @@ const LISTS = {E: ["events", "id"], R: ["resources", "id"], G: ["geolocations", 
 function namedValues(title, found) {
   const body = make("tbody"), top = make("div", {class: "pages"});
   paged(50, top, body, ([name, value]) => make("tr", {}, put(make("th", {scope: "row"}), name), make("td", {}, block(value))))(found);
-  return titled(`${title}: ${counted(found.length)}`, ...(found.length > 50 ? [top] : []), make("table", {class: "compare"}, body));
+  return titled(`${title}: ${counted(found.length)}`, ...(found.length > 50 ? [top] : []), make("table", {class: "compare"}, make("caption", {class: "unseen"}, title), body));
 }
 
 /** Lists the properties and entities of the log. */
@@ -34,12 +34,11 @@ function asidePanel(panel) {
   const body = make("tbody"), top = make("div", {class: "pages"});
   const list = paged(50, top, body, asideRow, () => data.aside.length);
   const show = () => {
-    const wanted = chosen.search.toLowerCase();
-    if (!panel.hidden) list(data.aside.filter(entry => entry.flat().some(each => each.toLowerCase().includes(wanted))));
+    if (!panel.hidden) list(searched(data.aside, entry => entry.flat()));
   };
   watchers.push(show);
   panel.append(make("p", {class: "minor"}, "These lines and events are in no log: mend them, and take them again."), top,
-    make("div", {class: "scroll"}, make("table", {class: "pairs"}, heading(["File", "Line", "Faults", "What it has"], ["Line"]), body)));
+    make("div", {class: "scroll"}, make("table", {class: "pairs"}, make("caption", {class: "unseen"}, "What was set aside"), heading(["File", "Line", "Faults", "What it has"], ["Line"]), body)));
   return show;
 }
 
@@ -145,6 +144,15 @@ function wire() {
   id("tabs").addEventListener("keydown", tabKey);
   id("search").dataset.filter = "search";
   id("search").addEventListener("input", calmed(() => { chosen.search = id("search").value; update(); }));
+  for (const name of ["via", "late"]) {
+    id(name).dataset.filter = name;
+    id(name).addEventListener("input", calmed(() => {
+      chosen[name] = id(name).value.trim();
+      update();
+    }));
+  }
+  watchers.push(() => id("search").setAttribute("aria-invalid", wordsOf(chosen.search).length > MOST_WORDS));
+  watchers.push(() => id("late").setAttribute("aria-invalid", chosen.late !== "" && Number.isNaN(durationOf(chosen.late))));
   id("clear").addEventListener("click", () => {
     Object.assign(chosen, {outcomes: new Set([0, 1, 2, 3]), open: true});
     switches();
@@ -170,6 +178,7 @@ addPanel("conflicts", "Conflicts", conflicts.length, conflictsPanel);
 if (data.lacks.length) addPanel("sites", "Two sites", data.lacks.reduce((before, side) => before + parts(side).length, 0), sitesPanel);
 const rest = restOf();
 const fillRest = panel => panel.append(...rest.map(([title, found]) => namedValues(title, found)));
+addPanel("complete", "Is it complete?", null, completePanel);
 if (data.aside) addPanel("aside", "Set aside", data.aside.length, asidePanel);
 if (rest.length) addPanel("rest", "Rest of the log", rest.reduce((sum, [, found]) => sum + found.length, 0), fillRest);
 wire();

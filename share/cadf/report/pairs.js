@@ -4,9 +4,9 @@
 function pairs() {
   const counts = new Map(), {initiator, target} = columns;
   for (const event of listed) {
-    const key = initiator.at[event] * target.texts.length + target.at[event];
+    const who = initiator.first[initiator.at[event]], whom = target.first[target.at[event]], key = who * target.texts.length + whom;
     let pair = counts.get(key);
-    if (!pair) counts.set(key, pair = {initiator: initiator.at[event], target: target.at[event], by: [0, 0, 0, 0], actions: new Map(), all: 0, open: 0});
+    if (!pair) counts.set(key, pair = {initiator: who, target: whom, by: [0, 0, 0, 0], actions: new Map(), all: 0, open: 0});
     const action = columns.action.at[event];
     pair.by[outcomes[event]]++;
     pair.all++;
@@ -114,7 +114,7 @@ function pairsPanel(panel) {
   const body = make("tbody"), top = make("div", {class: "pages"}), square = make("div", {class: "scroll"});
   let sides = ["initiator", "target"], found = [], most = 1;
   const heads = heading(["Initiator", "Target", "Actions", "Failures", "Events", "By outcome"], ["Failures", "Events"]);
-  const table = make("table", {class: "pairs"}, heads, body);
+  const table = make("table", {class: "pairs"}, make("caption", {class: "unseen"}, "Initiators and targets"), heads, body);
   const list = paged(50, top, body, pair => pairRow(pair, most));
   const draw = () => square.replaceChildren(found.length ? matrix(found, ...sides) : make("p", {class: "none"}, whyNone()));
   const note = make("div");

@@ -42,7 +42,7 @@ function lackCounts(facts, pick) {
     return make("td", {class: "number"}, found.length ? button(counted(found.length), () => pick(found), {class: "link", "aria-label": label}) : "0");
   };
   const rows = ["", ...kinds].map(kind => make("tr", {}, make("th", {scope: "row"}, kind ? KINDS[kind] + "s" : "all facts"), cell(0, kind), cell(1, kind)));
-  return make("table", {class: "compare counts-of"}, heading(["Kind", ...SIDES.map(side => side[0].toUpperCase() + side.slice(1))], []), make("tbody", {}, ...rows));
+  return make("table", {class: "compare counts-of"}, make("caption", {class: "unseen"}, "Facts that a site lacks, by kind"), heading(["Kind", ...SIDES.map(side => side[0].toUpperCase() + side.slice(1))], []), make("tbody", {}, ...rows));
 }
 
 /** Makes the row of a fact that a side lacks. */
@@ -87,8 +87,8 @@ function sitesPanel(panel) {
   let group = facts;
   const show = () => {
     if (panel.hidden) return;
-    const search = chosen.search ? new Search(chosen.search) : null, limits = chosen.from > -Infinity || chosen.until < Infinity;
-    list(group.filter(({time, cell}) => (!limits || time >= chosen.from && time < chosen.until) && (!search || search.finds(cell))));
+    const limits = chosen.from > -Infinity || chosen.until < Infinity;
+    list(searched(group.filter(({time}) => !limits || time >= chosen.from && time < chosen.until), ({cell}) => [cell]));
   };
   watchers.push(show);
   const [here, other] = data.union.names, named = put(make("p", {id: "named"}, "These files: "), cut(here, 400));
@@ -96,6 +96,6 @@ function sitesPanel(panel) {
   panel.append(put(named, cut(other, 400)));
   if (!facts.length) panel.append(make("p", {class: "none"}, "Both sites hold the same facts."));
   else panel.append(betweenSites(facts), lackCounts(facts, found => { group = found; show(); }), lackTimeline(facts), top,
-    make("div", {class: "scroll"}, make("table", {class: "pairs"}, heading(["Who lacks it", "Kind", "Key", "Time (UTC)", "What"]), body)));
+    make("div", {class: "scroll"}, make("table", {class: "pairs"}, make("caption", {class: "unseen"}, "Facts that a site lacks"), heading(["Who lacks it", "Kind", "Key", "Time (UTC)", "What"]), body)));
   return show;
 }

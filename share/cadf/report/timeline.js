@@ -1,6 +1,6 @@
 /* The timeline: events by time and outcome, values of open conflicts below, and the range that is selected. */
 
-const SECOND = 1e3, MINUTE = 6e4, HOUR = 36e5, DAY = 864e5, YEAR = 315576e5;
+const SECOND = 1e3, MINUTE = 6e4, HOUR = 36e5, DAY = 864e5, YEAR = 315576e5, MONTH = YEAR / 12;
 const multiples = (unit, ...counts) => counts.map(count => count * unit);
 const STEPS = [...multiples(1, 1, 2, 5, 10, 20, 50, 100, 200, 500), ...multiples(SECOND, 1, 2, 5, 10, 30),
   ...multiples(MINUTE, 1, 2, 5, 10, 30), ...multiples(HOUR, 1, 2, 3, 6, 12), ...multiples(DAY, 1, 2, 7),
@@ -43,9 +43,24 @@ const total = bin => bin[0] + bin[1] + bin[2] + bin[3];
 const stamp = time => Math.abs(time) <= 864e13 ? new Date(time).toISOString().replace("T", " ").replace(/(:00)?\.000Z$/, "").replace(/Z$/, "") : "";
 const day = time => stamp(time).replace(/ 00:00$/, "");
 
-/** Writes the label of a border, without what the label before has told; a year alone where labels are years apart. */
+/** Lists the borders that are so far apart; months and years begin where the calendar has them. */
+function borders(from, until, every) {
+  const months = Math.round(every / MONTH), found = [];
+  if (every < MONTH) {
+    for (let time = Math.ceil(from / every) * every; time < until; time += every) found.push(time);
+    return found;
+  }
+  const begin = new Date(from), first = Math.floor((begin.getUTCFullYear() * 12 + begin.getUTCMonth()) / months) * months;
+  for (let month = first, time = NaN; !(time >= until); month += months) {
+    time = new Date(0).setUTCFullYear(Math.floor(month / 12), month % 12, 1);
+    if (time >= from && time < until) found.push(time);
+  }
+  return found;
+}
+
+/** Writes the label of a border, without what the label before has told; a month or a year alone where labels are so far apart. */
 function label(time, before, every) {
-  if (every >= 315576e5) return String(new Date(time + 864e6).getUTCFullYear());
+  if (every >= MONTH) return every >= YEAR ? String(new Date(time).getUTCFullYear()) : day(time).slice(0, -3);
   if (before === null || stamp(time).slice(0, 10) !== stamp(before).slice(0, 10)) return day(time);
   return stamp(time).slice(11);
 }
@@ -85,7 +100,7 @@ function axis({from, until}, base) {
   const group = draw("g", {class: "axis"});
   const every = STEPS.find(step => (until - from) / step <= wide / 120) || STEPS[STEPS.length - 1];
   let before = null;
-  for (let time = Math.ceil(from / every) * every; time < until; time += every) {
+  for (const time of borders(from, until, every)) {
     const x = (time - from) / (until - from) * wide;
     group.append(draw("line", {x1: x, x2: x, y1: base, y2: base + 16}));
     if (x < wide - 70) group.append(draw("text", {x: x + 3, y: base + 16}, label(time, before, every)));

@@ -45,7 +45,11 @@ const plain = cell => cell === undefined ? "" : isText(cell) ? real(cell) : text
 /* ---- Writing: data goes through `put` alone, as text nodes; an attribute or an option has it `named`. ---- */
 
 const SVG = "http://www.w3.org/2000/svg";
-const ODD = /[\p{Cc}\p{Cf}\p{Zl}\p{Zp}\p{Co}\u00a0\u034f\u115f\u1160\u1680\u17b4\u17b5\u2000-\u200a\u202f\u205f\u2800\u3000\u3164\uffa0\ufe00-\ufe0f\u{e0100}-\u{e01ef}]/gu;
+const UNSEEN = "[\\p{Cc}\\p{Cf}\\p{Zl}\\p{Zp}\\p{Co}\\u00a0\\u034f\\u115f\\u1160\\u1680\\u17b4\\u17b5\\u2000-\\u200a\\u202f\\u205f\\u2800\\u3000\\u3164\\uffa0\\ufe00-\\ufe0f\\u{e0100}-\\u{e01ef}]";
+const JOINED = `[${["Arabic", "Syriac", "Mongolian", "Devanagari", "Bengali", "Gurmukhi", "Gujarati", "Oriya", "Tamil", "Telugu", "Kannada", "Malayalam", "Sinhala", "Khmer", "Myanmar"]
+  .map(script => `\\p{Script=${script}}`).join("")}]`, PICTURE = "\\p{Extended_Pictographic}";
+// Of these a joiner between letters that it joins or parts isn't odd, nor one within a picture of several.
+const ODD = new RegExp(`(?=${UNSEEN})(?!(?<=${JOINED})[\\u200c\\u200d](?=${JOINED})|(?<=[${PICTURE}\\ufe0f\\u{1f3fb}-\\u{1f3ff}])\\u200d(?=${PICTURE})|(?<=${PICTURE})\\ufe0f).`, "gsu");
 const codePoint = char => "U+" + char.codePointAt(0).toString(16).toUpperCase().padStart(4, "0");
 const named = string => string.replace(ODD, char => "\u2039" + codePoint(char) + "\u203a");
 const cut = (string, most) => string.length <= most || string.length <= 2 * most && [...string].length <= most
