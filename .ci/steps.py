@@ -48,6 +48,7 @@ UNLIMITED = {
 STAGES = [
     ("beside all others", False, {
         "test": "nice -n 19 python3 -m tests",
+        "weeks": "nice -n 19 python3 -m tests.simulation.weeks --weeks 2 --today",
     }),
     ("before any build", False, {
         "calls": "python3 -m tests.tables.make --check",

@@ -2,6 +2,7 @@
 
     count FILE   runs the far cadf-sync, and writes the bytes both ways and the turns of the line to FILE
     cut N        the same, but the connection ends after N bytes of both ways together
+    flip N       the same, but of both ways together the byte at place N has another lowest bit
     says FILE    no cadf-sync: writes FILE's bytes, reads all that comes, and waits
     endless FILE writes FILE's bytes, and then its last line again and again
     streams FILE the same, but slowly: no message of some MB comes to its end
@@ -25,7 +26,12 @@ def write(data):
         data = data[os.write(1, data):]
 
 
-def relayed(words, most):
+def flipped(data, place):
+    """The bytes, of which the one at that place, if they have it, has another lowest bit."""
+    return data[:place] + bytes([data[place] ^ 1]) + data[place + 1:] if 0 <= place < len(data) else data
+
+
+def relayed(words, most, flip=-1):
     """Runs the far program, and passes on what both ends write, at most so many bytes. Returns bytes to it, from it, turns."""
     words[0] = os.path.join(os.environ["TOOLS"], words[0])
     child = subprocess.Popen([sys.executable, *words], stdin=subprocess.PIPE, stdout=subprocess.PIPE)
@@ -38,6 +44,7 @@ def relayed(words, most):
             if not data:
                 os.close(ways.pop(each))
                 continue
+            data = flipped(data, flip - sum(counts.values()))
             turns += each == 0 and last != 0
             counts[each], last = counts[each] + len(data), each
             try:
@@ -50,8 +57,8 @@ def relayed(words, most):
 
 
 def main(mode, word, *rest):
-    if mode in ("count", "cut"):
-        status, *counts = relayed(shlex.split(rest[-1]), int(word) if mode == "cut" else 2 ** 62)
+    if mode in ("count", "cut", "flip"):
+        status, *counts = relayed(shlex.split(rest[-1]), int(word) if mode == "cut" else 2 ** 62, int(word) if mode == "flip" else -1)
         if mode == "count":
             with open(word, "w", encoding="ascii") as file:
                 file.write(" ".join(map(str, counts)))

@@ -6,10 +6,8 @@ import ctypes
 import errno
 import fcntl
 import functools
-import glob
 import json
 import os
-import random
 import resource
 import shlex
 import signal
@@ -564,28 +562,6 @@ def test_each_call(spools, way):
     for folder, done in zip(left.values(), side_by_side(spools.takes, left.values())):
         assert done.status in (0, 1)
         spools.leaves(folder, after, **wanted)
-
-
-@pytest.mark.parametrize("kills", [10, pytest.param(200, marks=[pytest.mark.release, pytest.mark.timeout(1200)])])
-def test_kills(spools, kills):
-    """It is killed with all that it runs, at any moment of a run, while files arrive: then one run more takes the rest."""
-    chance, folder, documents = random.Random(7), spools.site(), []
-    put(os.path.join(folder, "s.cadf"), spools.joined(document("e0")))
-    began = time.monotonic()
-    spools.run(folder, "s.cadf", "spool")
-    seconds = 5 * (time.monotonic() - began)  # a run that takes something is that much longer
-    for number in range(kills):
-        documents.append(document("k%d" % number))
-        put(os.path.join(folder, "spool", "k%d.%s" % (number, chance.choice(["json", "jsonl"]))), documents[-1])
-        child = spools.started(folder, stderr=subprocess.DEVNULL, start_new_session=True)
-        time.sleep(chance.uniform(0, seconds))
-        os.killpg(child.pid, signal.SIGKILL)
-        child.wait()
-        assert ended(spools.cadf, ["check", os.path.join(folder, "s.cadf")]).status == 0, number
-    assert spools.run(folder, "s.cadf", "spool").status == 0
-    taken = [os.path.basename(path) for path in glob.glob(os.path.join(folder, "spool/taken/*"))]
-    spools.leaves(folder, spools.joined(document("e0"), *documents), **names_in("taken", taken))
-    assert len(taken) == kills
 
 
 def test_several_at_once(spools):
