@@ -69,8 +69,8 @@ pub use Rattle.cadf_log.specs.declared.splice.OwnMembers.TheVariants.{Entries, S
 pub use Rattle.cadf_log.specs.declared.splice.PendingMembers.{PendingMembers}
 pub use Rattle.cadf_pathset.proofs.Several.{text_in, texts_of}
 pub use Rattle.cadf_pathset.specs.Sections.{sections_from, sections_of, suffixes_after}
-pub use Rattle.cadf_scan.proofs.BodyInstants.{IsKept, body_instant_is, is_kept}
-pub use Rattle.cadf_scan.proofs.CutMembers.{comma_off, cut_front, cut_rest}
+pub use Rattle.cadf_scan.proofs.BodyInstants.{IsKept, body_instant_is, is_kept, object_from}
+pub use Rattle.cadf_scan.proofs.CutMembers.{comma_off, cut_front, cut_rest, from_whole, joined_text}
 pub use Rattle.cadf_scan.proofs.TextValues.{spelled, spelled_holds, text-value_of}
 pub use Rattle.cadf_scan.specs.Instants.{body_instant, value_of}
 pub use Rattle.cadf_scan.specs.Scan.{has_members, members_below, members_front, members_not_below, without_comma}
