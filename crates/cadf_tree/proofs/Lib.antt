@@ -1,0 +1,3 @@
+mod OnePass
+mod Sorted
+pub mod Steps
