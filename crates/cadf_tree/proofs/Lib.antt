@@ -1,3 +1,8 @@
+mod Differing
+mod Filling
+mod Judged
 mod OnePass
+mod Rising
 mod Sorted
 pub mod Steps
+pub mod Walking

@@ -1,2 +1,6 @@
+pub mod Grown
+pub mod GrowthLaws
 pub mod OnePass
+pub mod Pruned
 pub mod Tree
+pub mod Walked

@@ -1,8 +1,18 @@
 //! Laws over the definitions alone. Each function's contract is a theorem, and its body is empty.
 ghost use Rattle.std.specs.Prelude.{◌≡◌, List, ℕ};
+ghost use Rattle.cadf_tree.specs.GrowthLaws.{EarlierIsHonest, LaterIsHonest, BothAreHonest};
 ghost use Rattle.cadf_tree.specs.Tree.{IsSet, all_leaves, tree_of};
 
 /// States that the leaves of a set's tree, from left to right, are its digests, ascending.
 pub fn tree_has_the_set()
     ensures { (ds : List (List ℕ)) → IsSet ds → all_leaves (tree_of ds) ≡ ds }
+{}
+
+/// States that sets whose roots are accepted differ by what the parts show, and by nothing else, if what is hashed doesn't
+/// collide. If one root alone is known to be that of a set, the other one is that of a tree whose leaves rise and differ from
+/// the set so.
+pub fn growth_is_sound()
+    ensures both { BothAreHonest }
+    ensures earlier { EarlierIsHonest }
+    ensures later { LaterIsHonest }
 {}

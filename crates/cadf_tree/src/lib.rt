@@ -1,8 +1,12 @@
 //! The tree of a set of digests: its root, and proofs of what is in the set and of how it grew.
 #![tactic(auto)]
 
+mod growth;
 mod laws;
+mod parts;
 mod tree;
 
-pub use laws::tree_has_the_set;
+pub use growth::{Growth, GrowthFault, grew};
+pub use laws::{growth_is_sound, tree_has_the_set};
+pub use parts::{Kind, Part};
 pub use tree::{Root, root_of};

@@ -1,0 +1,7 @@
+use Rattle.std.proofs.Common.{◌≡◌, ◌+◌, ◌≤◌, length, drop}
+use Rattle.std.specs.List.{filter}
+use Rattle.cadf_tree.specs.Pruned.{is_of}
+use Rattle.cadf_tree.proofs.parts.number_of.Given as goal
+
+abbrev pub invariant-loop-part : goal.invariant-loop-part
+invariant-loop-part l = (l.number + length (filter (is_of l.kind) (drop l.part-index l.parts)) ≡ length (filter (is_of l.kind) l.parts)) × (l.number ≤ l.part-index)
