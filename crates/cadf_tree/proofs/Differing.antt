@@ -10,7 +10,6 @@ use Rattle.cadf_tree.specs.Pruned.{Pruned, side_hash, side_root, read_all, items
 use Rattle.cadf_tree.specs.Grown.{hidden_leaves, are_equal, all_beside, rise, is_seen, has_changed}
 use Rattle.cadf_tree.specs.GrowthLaws.{DoNotCollide, TreeHashes, IsHashedFor, SideHashes, AllSideHashes, IsHashedOf, IsHashedBy, HaveHashes, all_kinds, is_added, is_gone, those, AreRising, IsDifference, GrownFrom, GrownTo, EarlierIsHonest, LaterIsHonest, IsHashedForBoth, BothAreHonest}
 use Rattle.cadf_tree.specs.declared.tree.Root.{Root}
-use Rattle.cadf_tree.specs.declared.growth.Growth.{Growth}
 use Rattle.cadf_tree.specs.declared.parts.Kind.{Kind}
 use Rattle.cadf_tree.specs.declared.parts.Kind.TheVariants.{Both, Added, Gone}
 use Rattle.cadf_tree.specs.declared.parts.Part.{Part}
@@ -55,7 +54,7 @@ gone_is (One Gone d ∷ cs) = ap (λ l. d ∷ l) (gone_is cs)
 -- ---- both sides of a pruned tree
 
 -- what changed isn't on the one side
-added_off : (k : Kind) (d : Text) → is_earlier k ≡ false → has_changed (Leaf k d) ≡ true
+pub added_off : (k : Kind) (d : Text) → is_earlier k ≡ false → has_changed (Leaf k d) ≡ true
 added_off Both d e = sym e
 added_off Added d e = refl
 added_off Gone d e = refl
@@ -142,7 +141,7 @@ module _ (Q : Text → Type 0) (free : DoNotCollide Q) (on off : Kind → Bool) 
 
 -- the leaves that are shown differ as the parts say
 module _ (Q : Text → Type 0) (free : DoNotCollide Q) (on off : Kind → Bool) (ds : List Text) (ps : List Part) (t : Option Pruned) (x : IsFound Q free on off t (tree_of ds)) where
-  its_items : items ps ≡ tree_items t → items ps ≡ cell_items x.cells
+  pub its_items : items ps ≡ tree_items t → items ps ≡ cell_items x.cells
   its_items e = e ∙ sym x.items
 
   pub all_rise : ((k : Kind) (d : Text) → on k ≡ false → has_changed (Leaf k d) ≡ true) → items ps ≡ tree_items t → IsSet ds
@@ -194,11 +193,11 @@ none_later a n ps empty h = (none.1, by)
 
 -- ---- the laws
 
-module _ (Q : Text → Type 0) (free : DoNotCollide Q) (old : List Text) (b : Root) (ps : List Part) (g : Growth) where
+module _ (Q : Text → Type 0) (free : DoNotCollide Q) (old : List Text) (b : Root) (ps : List Part) where
   empty_text : IsAccepted (root old) b ps → ((x : Text) → IsHashedBy is_earlier (length old) ps x → Q x) → Q []
   empty_text ok texts = texts [] (subst (λ r. IsHashedOf is_earlier (length old) r []) (sym ok.read) (inl refl))
 
-  earlier_found : IsSet old → HaveHashes ps → ((x : Text) → IsHashedFor old x → Q x) → ((x : Text) → IsHashedBy is_earlier (length old) ps x → Q x)
+  pub earlier_found : IsSet old → HaveHashes ps → ((x : Text) → IsHashedFor old x → Q x) → ((x : Text) → IsHashedBy is_earlier (length old) ps x → Q x)
       → (ok : IsAccepted (root old) b ps) → IsFound Q free is_earlier is_later ok.tree (tree_of old)
   earlier_found set long honest texts ok =
       root_found Q free is_earlier is_later old ps ok.tree (empty_text ok texts) set ok.read long honest texts (λ e. none_earlier (length old) b ps e ok.counts) ok.earlier
@@ -224,9 +223,9 @@ module _ (Q : Text → Type 0) (free : DoNotCollide Q) (old : List Text) (b : Ro
 
 pub earlier : EarlierIsHonest
 earlier old b ps g set long free h =
-    earlier_by (λ x. IsHashedFor old x ⊎ IsHashedBy is_earlier (length old) ps x) free old b ps g set long (λ x m. inl m) (λ x m. inr m) (accepted (root old) b ps g h)
+    earlier_by (λ x. IsHashedFor old x ⊎ IsHashedBy is_earlier (length old) ps x) free old b ps set long (λ x m. inl m) (λ x m. inr m) (accepted (root old) b ps g h)
 
-module _ (Q : Text → Type 0) (free : DoNotCollide Q) (a : Root) (new : List Text) (ps : List Part) (g : Growth) where
+module _ (Q : Text → Type 0) (free : DoNotCollide Q) (a : Root) (new : List Text) (ps : List Part) where
   later_by : IsSet new → HaveHashes ps → ((x : Text) → IsHashedFor new x → Q x) → ((x : Text) → IsHashedBy is_later (length new) ps x → Q x)
       → IsAccepted a (root new) ps → GrownTo a new ps
   later_by set long honest texts ok =
@@ -248,13 +247,13 @@ module _ (Q : Text → Type 0) (free : DoNotCollide Q) (a : Root) (new : List Te
 
 pub later : LaterIsHonest
 later a new ps g set long free h =
-    later_by (λ x. IsHashedFor new x ⊎ IsHashedBy is_later (length new) ps x) free a new ps g set long (λ x m. inl m) (λ x m. inr m) (accepted a (root new) ps g h)
+    later_by (λ x. IsHashedFor new x ⊎ IsHashedBy is_later (length new) ps x) free a new ps set long (λ x m. inl m) (λ x m. inr m) (accepted a (root new) ps g h)
 
 pub both : BothAreHonest
 both old new ps g set set_too long free h =
     let Q : Text → Type 0 = IsHashedForBoth old new ps in
     let ok = accepted (root old) (root new) ps g h in
-    let x = earlier_found Q free old (root new) ps g set long (λ y m. inl (inl m)) (λ y m. inl (inr m)) ok in
+    let x = earlier_found Q free old (root new) ps set long (λ y m. inl (inl m)) (λ y m. inl (inr m)) ok in
     let there : (y : Text) → IsHashedOf is_later (length new) (Some ok.tree) y → IsHashedForBoth old new ps y =
     λ y m. inr (inr (subst (λ r. IsHashedOf is_later (length new) r y) (sym ok.read) m)) in
     let same : x.other ≡ tree_of new = all_determined Q free x.other (tree_of new) (there [] (inl refl)) (x.texts (λ y m. there y (inr (inr m))))
@@ -262,4 +261,4 @@ both old new ps g set set_too long free h =
     (x.hash ∙ root_tree (length new) (length new) (side_root is_later ok.tree) (tree_hash (tree_of new))
     (free _ _ (there _ (inr (inl refl))) (inr (inl (inl refl))) ok.later)) in
     subst (λ l. IsDifference old l (leaves_of Added ps) (leaves_of Gone ps)) (ap all_leaves same ∙ leaves_are new set_too)
-    (earlier_difference Q free old (root new) ps g set ok x)
+    (earlier_difference Q free old (root new) ps set ok x)

@@ -10,8 +10,8 @@ use Rattle.cadf_tree.specs.Grown.{is_text, may_hide, hidden_leaves, are_equal, c
 use Rattle.cadf_tree.specs.GrowthLaws.{HaveHashes}
 use Rattle.cadf_tree.specs.declared.tree.Root.{Root}
 use Rattle.cadf_tree.specs.declared.growth.Growth.{Growth}
-use Rattle.cadf_tree.specs.declared.growth.GrowthFault.{GrowthFault}
-use Rattle.cadf_tree.specs.declared.growth.GrowthFault.TheVariants.{OtherCount, OtherEarlierRoot, OtherLaterRoot, Order, NeighbourHidden, NotNeeded}
+use Rattle.cadf_tree.specs.declared.growth.TreeFault.{TreeFault}
+use Rattle.cadf_tree.specs.declared.growth.TreeFault.TheVariants.{OtherCount, OtherEarlierRoot, OtherLaterRoot, Order, NeighbourHidden, NotNeeded}
 use Rattle.cadf_tree.specs.declared.parts.Kind.{Kind}
 use Rattle.cadf_tree.specs.declared.parts.Kind.TheVariants.{Both, Added, Gone}
 use Rattle.cadf_tree.specs.declared.parts.Part.{Part}
@@ -21,23 +21,23 @@ use Rattle.cadf_tree.proofs.Rising.{and_left, and_right, false_true}
 
 -- ---- one check after the other
 
-or_first : (o p : Option GrowthFault) → option_or o p ≡ None → o ≡ None
+or_first : (o p : Option TreeFault) → option_or o p ≡ None → o ≡ None
 or_first None p h = refl
 or_first (Some f) p h = h
 
-or_second : (o p : Option GrowthFault) → option_or o p ≡ None → p ≡ None
+or_second : (o p : Option TreeFault) → option_or o p ≡ None → p ≡ None
 or_second None p h = h
 or_second (Some f) p h = absurd (cc)
 
-unless : (b : Bool) (f : GrowthFault) → fault_unless b f ≡ None → b ≡ true
+unless : (b : Bool) (f : TreeFault) → fault_unless b f ≡ None → b ≡ true
 unless true f h = refl
 unless false f h = absurd (cc)
 
-accepted_by : (o : Option GrowthFault) (ps : List Part) (g : Growth) → growth_unless o ps ≡ Ok g → o ≡ None
+accepted_by : (o : Option TreeFault) (ps : List Part) (g : Growth) → growth_unless o ps ≡ Ok g → o ≡ None
 accepted_by None ps g h = refl
 accepted_by (Some f) ps g h = absurd (cc)
 
-same_text : (x y : Text) → is_text x y ≡ true → x ≡ y
+pub same_text : (x y : Text) → is_text x y ≡ true → x ≡ y
 same_text [] [] h = refl
 same_text [] (b ∷ y) h = absurd (false_true h)
 same_text (a ∷ x) [] h = absurd (false_true h)
@@ -72,12 +72,14 @@ by_tree a b ps counts (Some t) e h =
       seen = unless _ NeighbourHidden (or_first (fault_unless (all_beside is_seen (items ps)) NeighbourHidden) (fault_unless (not (has_spare t)) NotNeeded) (or_second rising rest order));
     }
 
-pub accepted : (a b : Root) (ps : List Part) (g : Growth) → verdict a b ps ≡ Ok g → IsAccepted a b ps
-accepted a b ps g h =
-    let none = or_first (tree_fault a b ps) (fault_unless (all_needed false (items ps)) NotNeeded) (accepted_by _ ps g h) in
+pub judged : (a b : Root) (ps : List Part) → tree_fault a b ps ≡ None → IsAccepted a b ps
+judged a b ps none =
     let counts = fault_unless (counts_agree a b ps) OtherCount in
     by_tree a b ps (unless (counts_agree a b ps) OtherCount (or_first counts (sides_fault a b ps (option_map sides (read_all ps))) none)) (read_all ps) refl
     (or_second counts (sides_fault a b ps (option_map sides (read_all ps))) none)
+
+pub accepted : (a b : Root) (ps : List Part) (g : Growth) → verdict a b ps ≡ Ok g → IsAccepted a b ps
+accepted a b ps g h = judged a b ps (or_first (tree_fault a b ps) (fault_unless (all_needed false (items ps)) NotNeeded) (accepted_by _ ps g h))
 
 -- ---- what is read is what stands there
 

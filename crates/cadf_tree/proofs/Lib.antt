@@ -3,6 +3,7 @@ mod Filling
 mod Judged
 mod OnePass
 mod Rising
+mod Showing
 mod Sorted
 pub mod Steps
 pub mod Walking

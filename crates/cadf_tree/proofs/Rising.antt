@@ -35,7 +35,7 @@ rest_fits : (fit : Part → Part → Bool) (x : Part) (xs : List Part) → all_b
 rest_fits fit x [] h = refl
 rest_fits fit x (y ∷ ys) h = and_right (fit x y) (all_beside fit (y ∷ ys)) h
 
-rest_rising : (d : Text) (ds : List Text) → AreRising (d ∷ ds) → AreRising ds
+pub rest_rising : (d : Text) (ds : List Text) → AreRising (d ∷ ds) → AreRising ds
 rest_rising d [] h = tt
 rest_rising d (e ∷ ds) h = h.1
 

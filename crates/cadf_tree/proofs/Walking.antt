@@ -1,9 +1,12 @@
 -- Parts that are gone through with the nodes among them.
-use Rattle.std.proofs.Common.{◌≡◌, ◌∙◌, ◌≤◌, length, arith, Bool, true, List, [], ◌∷◌, Option, None, Some, refl, ap, sym}
+use Rattle.std.proofs.Common.{◌≡◌, ◌∙◌, ◌+◌, ◌<◌, ◌≤◌, ◌-◌, ℕ, take, drop, get_or, length, arith, Bool, true, false, List, [], ◌∷◌, Option, None, Some, refl, ap, sym}
 use Rattle.std.specs.Prelude.{◌&&◌, option_map}
+use Rattle.std.proofs.lemmas.List.{drop_more, take_rest}
 use Rattle.cadf_tree.specs.Pruned.{items, Read, read, read_all, whole, summaries}
 use Rattle.cadf_tree.specs.Grown.{all_beside, sides}
-use Rattle.cadf_tree.specs.Walked.{walked, whole_sides}
+use Rattle.cadf_tree.specs.Tree.{Text}
+use Rattle.cadf_tree.specs.Presence.{all_asked}
+use Rattle.cadf_tree.specs.Walked.{latest, walked, is_asked, whole_sides}
 use Rattle.cadf_tree.specs.declared.growth.Sides.{Sides}
 use Rattle.cadf_tree.specs.declared.parts.Summary.{Summary}
 use Rattle.cadf_tree.specs.declared.parts.Part.{Part}
@@ -26,6 +29,27 @@ module _ (fit : Part → Part → Bool) where
   walk_items (Some b) (Hash h ∷ ps) = ap (λ z. fit b (Hash h) && z) (walk_items (Some (Hash h)) ps)
   walk_items None (Leaf k d ∷ ps) = walk_items (Some (Leaf k d)) ps
   walk_items (Some b) (Leaf k d ∷ ps) = ap (λ z. fit b (Leaf k d) && z) (walk_items (Some (Leaf k d)) ps)
+
+-- ---- leaves that are asked for
+
+pub asked_next : (b : Option Part) (x : Part) (ps : List Part) (fs : List Text) → is_asked b x ps fs ≡ true
+    → all_asked b (items (x ∷ ps)) fs ≡ all_asked (latest b x) (items ps) fs
+asked_next b Node ps fs e = refl
+asked_next b (Hash h) ps fs e = refl
+asked_next b (Leaf k d) ps fs e = ap (λ z. z && all_asked (Some (Leaf k d)) (items ps) fs) e
+
+pub asked_loop : (ps : List Part) (fs : List Text) (b n : Option Part) (i : ℕ) (d : Part) (all z : Bool) → i < length ps → all ≡ all_asked b (items (drop i ps)) fs
+    → z ≡ is_asked b (get_or ps i d) (take (length ps - (i + 1)) (drop (i + 1) ps)) fs → z ≡ true → n ≡ latest b (get_or ps i d)
+    → all ≡ all_asked n (items (drop (i + 1) ps)) fs
+asked_loop ps fs b n i d all z low h e t f =
+    h ∙ ap (λ l. all_asked b (items l) fs) (drop_more ps i d low)
+    ∙ asked_next b (get_or ps i d) (drop (i + 1) ps) fs (ap (λ l. is_asked b (get_or ps i d) l fs) (sym (take_rest ps (i + 1))) ∙ sym e ∙ t)
+    ∙ ap (λ m. all_asked m (items (drop (i + 1) ps)) fs) (sym f)
+
+pub asked_end : (b : Option Part) (x : Part) (ps : List Part) (fs : List Text) → is_asked b x ps fs ≡ false → all_asked b (items (x ∷ ps)) fs ≡ false
+asked_end b Node ps fs e = absurd (cc)
+asked_end b (Hash h) ps fs e = absurd (cc)
+asked_end b (Leaf k d) ps fs e = ap (λ z. z && all_asked (Some (Leaf k d)) (items ps) fs) e
 
 -- ---- what is read
 

@@ -26,8 +26,8 @@ use Rattle.cadf_tree.specs.declared.growth.Growth.{Growth}
 use Rattle.cadf_tree.specs.declared.growth.Sides.{Sides}
 use Rattle.cadf_tree.specs.declared.growth.Rule.{Rule}
 use Rattle.cadf_tree.specs.declared.growth.Rule.TheVariants.{Rising, Seen}
-use Rattle.cadf_tree.specs.declared.growth.GrowthFault.{GrowthFault}
-use Rattle.cadf_tree.specs.declared.growth.GrowthFault.TheVariants.{OtherCount, NoTree, OtherEarlierRoot, OtherLaterRoot, Order, NeighbourHidden, NotNeeded}
+use Rattle.cadf_tree.specs.declared.growth.TreeFault.{TreeFault}
+use Rattle.cadf_tree.specs.declared.growth.TreeFault.TheVariants.{OtherCount, NoTree, OtherEarlierRoot, OtherLaterRoot, Order, NeighbourHidden, NotNeeded}
 
 abbrev pub is_text : Text → Text → Bool
 is_text x y = pointwise nat_eq x y
@@ -100,30 +100,30 @@ sides t = record { earlier = side_root is_earlier t; later = side_root is_later 
 
 -- ---- what is said
 
-abbrev pub fault_unless : Bool → GrowthFault → Option GrowthFault
+abbrev pub fault_unless : Bool → TreeFault → Option TreeFault
 fault_unless true fault = None
 fault_unless false fault = Some fault
 
-abbrev pub roots_fault : Root → Root → Sides → Option GrowthFault
+abbrev pub roots_fault : Root → Root → Sides → Option TreeFault
 roots_fault a b s =
     option_or (fault_unless (is_text (root_hash a.count s.earlier) a.hash) OtherEarlierRoot)
     (fault_unless (is_text (root_hash b.count s.later) b.hash) OtherLaterRoot)
 
-abbrev pub order_fault : List Part → Bool → Option GrowthFault
+abbrev pub order_fault : List Part → Bool → Option TreeFault
 order_fault ps spare =
     option_or (fault_unless (all_beside rise (items ps)) Order)
     (option_or (fault_unless (all_beside is_seen (items ps)) NeighbourHidden) (fault_unless (not spare) NotNeeded))
 
-abbrev pub sides_fault : Root → Root → List Part → Option Sides → Option GrowthFault
+abbrev pub sides_fault : Root → Root → List Part → Option Sides → Option TreeFault
 sides_fault a b ps None = Some NoTree
 sides_fault a b ps (Some s) = option_or (roots_fault a b s) (order_fault ps s.spare)
 
-abbrev pub tree_fault : Root → Root → List Part → Option GrowthFault
+abbrev pub tree_fault : Root → Root → List Part → Option TreeFault
 tree_fault a b ps = option_or (fault_unless (counts_agree a b ps) OtherCount) (sides_fault a b ps (option_map sides (read_all ps)))
 
-abbrev pub growth_unless : Option GrowthFault → List Part → Result Growth GrowthFault
+abbrev pub growth_unless : Option TreeFault → List Part → Result Growth TreeFault
 growth_unless None ps = Ok (record { added = number (Some Added) ps; gone = number (Some Gone) ps })
 growth_unless (Some fault) ps = Err fault
 
-abbrev pub verdict : Root → Root → List Part → Result Growth GrowthFault
+abbrev pub verdict : Root → Root → List Part → Result Growth TreeFault
 verdict a b ps = growth_unless (option_or (tree_fault a b ps) (fault_unless (all_needed false (items ps)) NotNeeded)) ps

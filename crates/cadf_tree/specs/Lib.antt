@@ -1,6 +1,7 @@
 pub mod Grown
 pub mod GrowthLaws
 pub mod OnePass
+pub mod Presence
 pub mod Pruned
 pub mod Tree
 pub mod Walked

@@ -2,8 +2,13 @@
 --     follows fit before x   x fits the part before it, if there is one; a node does
 --     latest before x        the part before those after x: x, or the one before it if x is a node
 --     walked fit before ps   each of ps follows
+--     is_asked before x ps fs   x, with ps after it, is no leaf, or one that some of fs needs
 --     whole_sides r          the hashes of both sides of a tree that was read, if no part is left
 use Rattle.std.specs.Prelude.{Bool, true, ◌&&◌, List, [], ◌∷◌, Option, None, Some, unwrap_or}
+use Rattle.std.specs.List.{list_any}
+use Rattle.cadf_tree.specs.Tree.{Text}
+use Rattle.cadf_tree.specs.Pruned.{items}
+use Rattle.cadf_tree.specs.Presence.{needs, first_part}
 use Rattle.sha2.specs.Sha256.{sha256}
 use Rattle.cadf_tree.specs.declared.growth.Sides.{Sides}
 use Rattle.cadf_tree.specs.declared.parts.Summary.{Summary}
@@ -24,6 +29,11 @@ latest b (Leaf k d) = Some (Leaf k d)
 abbrev pub walked : (Part → Part → Bool) → Option Part → List Part → Bool
 walked fit b [] = true
 walked fit b (x ∷ xs) = follows fit b x && walked fit (latest b x) xs
+
+abbrev pub is_asked : Option Part → Part → List Part → List Text → Bool
+is_asked b Node ps fs = true
+is_asked b (Hash h) ps fs = true
+is_asked b (Leaf k d) ps fs = list_any (needs b (Leaf k d) (first_part (items ps))) fs
 
 abbrev pub whole_sides : Option (Summary × List Part) → Option Sides
 whole_sides None = None

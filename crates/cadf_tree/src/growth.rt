@@ -17,7 +17,7 @@ pub struct Growth {
 
 /// Why parts don't show how one set came of another one.
 #[derive(Clone, Copy, Debug, PartialEq, Eq)]
-pub enum GrowthFault {
+pub enum TreeFault {
     /// No trees of so many leaves differ by these parts.
     OtherCount,
     /// The parts are no tree in preorder, or one that is too deep.
@@ -145,7 +145,7 @@ fn follows(rule: &Rule, before: &Option<Part>, part: &Part) -> bool
 }
 
 /// Returns what comes before the part after this one. A node is left out.
-fn latest(before: Option<Part>, part: &Part) -> Option<Part>
+pub(crate) fn latest(before: Option<Part>, part: &Part) -> Option<Part>
     ensures { result ≡ latest before part.now }
 {
     match part {
@@ -239,44 +239,44 @@ fn sides_of(parts: &[Part]) -> Option<Sides>
 }
 
 /// Returns which root isn't that of its side, if one isn't.
-fn roots_fault(earlier: &Root, later: &Root, sides: &Sides) -> Option<GrowthFault>
+fn roots_fault(earlier: &Root, later: &Root, sides: &Sides) -> Option<TreeFault>
     ensures { result ≡ roots_fault earlier.now later.now sides.now }
 {
     if hash_of_root(earlier.count, &sides.earlier) != earlier.hash {
-        return Some(GrowthFault::OtherEarlierRoot);
+        return Some(TreeFault::OtherEarlierRoot);
     }
     if hash_of_root(later.count, &sides.later) != later.hash {
-        return Some(GrowthFault::OtherLaterRoot);
+        return Some(TreeFault::OtherLaterRoot);
     }
     None
 }
 
 /// Returns what is wrong with the order of the parts, or that one isn't needed.
-fn order_fault(parts: &[Part], spare: bool) -> Option<GrowthFault>
+fn order_fault(parts: &[Part], spare: bool) -> Option<TreeFault>
     ensures { result ≡ order_fault parts.now spare }
 {
     if !all_fit(&Rule::Rising, parts) {
-        return Some(GrowthFault::Order);
+        return Some(TreeFault::Order);
     }
     if !all_fit(&Rule::Seen, parts) {
-        return Some(GrowthFault::NeighbourHidden);
+        return Some(TreeFault::NeighbourHidden);
     }
     if spare {
-        Some(GrowthFault::NotNeeded)
+        Some(TreeFault::NotNeeded)
     } else {
         None
     }
 }
 
 /// Returns why the parts are no pruned tree under these roots, if they aren't one.
-pub(crate) fn tree_fault(earlier: &Root, later: &Root, parts: &[Part]) -> Option<GrowthFault>
+pub(crate) fn tree_fault(earlier: &Root, later: &Root, parts: &[Part]) -> Option<TreeFault>
     ensures { result ≡ tree_fault earlier.now later.now parts.now }
 {
     if !counts_agree(earlier, later, parts) {
-        return Some(GrowthFault::OtherCount);
+        return Some(TreeFault::OtherCount);
     }
     match sides_of(parts) {
-        None => Some(GrowthFault::NoTree),
+        None => Some(TreeFault::NoTree),
         Some(sides) => match roots_fault(earlier, later, &sides) {
             Some(fault) => Some(fault),
             None => order_fault(parts, sides.spare),
@@ -286,14 +286,14 @@ pub(crate) fn tree_fault(earlier: &Root, later: &Root, parts: &[Part]) -> Option
 
 /// Judges whether the parts show how the later set came of the earlier one, by the roots of both. Returns how many digests
 /// were added and how many are gone. `Err`: the first fault.
-pub fn grew(earlier: &Root, later: &Root, parts: &[Part]) -> Result<Growth, GrowthFault>
+pub fn grew(earlier: &Root, later: &Root, parts: &[Part]) -> Result<Growth, TreeFault>
     ensures { result ≡ verdict earlier.now later.now parts.now }
 {
     if let Some(fault) = tree_fault(earlier, later, parts) {
         return Err(fault);
     }
     if !all_needed(parts) {
-        return Err(GrowthFault::NotNeeded);
+        return Err(TreeFault::NotNeeded);
     }
     let added = number_of(Some(Kind::Added), parts);
     let gone = number_of(Some(Kind::Gone), parts);

@@ -1,6 +1,7 @@
 //! Laws over the definitions alone. Each function's contract is a theorem, and its body is empty.
 ghost use Rattle.std.specs.Prelude.{◌≡◌, List, ℕ};
 ghost use Rattle.cadf_tree.specs.GrowthLaws.{EarlierIsHonest, LaterIsHonest, BothAreHonest};
+ghost use Rattle.cadf_tree.specs.Presence.{PresenceIsSound};
 ghost use Rattle.cadf_tree.specs.Tree.{IsSet, all_leaves, tree_of};
 
 /// States that the leaves of a set's tree, from left to right, are its digests, ascending.
@@ -15,4 +16,9 @@ pub fn growth_is_sound()
     ensures both { BothAreHonest }
     ensures earlier { EarlierIsHonest }
     ensures later { LaterIsHonest }
+{}
+
+/// States that what parts under the root of a set show of a digest is so, if what is hashed doesn't collide.
+pub fn presence_is_sound()
+    ensures { PresenceIsSound }
 {}

@@ -4,9 +4,11 @@
 mod growth;
 mod laws;
 mod parts;
+mod presence;
 mod tree;
 
-pub use growth::{Growth, GrowthFault, grew};
-pub use laws::{growth_is_sound, tree_has_the_set};
+pub use growth::{Growth, TreeFault, grew};
+pub use laws::{growth_is_sound, presence_is_sound, tree_has_the_set};
 pub use parts::{Kind, Part};
+pub use presence::{shown, state};
 pub use tree::{Root, root_of};
