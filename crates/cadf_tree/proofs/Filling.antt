@@ -37,7 +37,7 @@ same_some x y e = cc
 pub none_some : (x : Text) → None ≡ Some x → ⊥
 none_some x e = absurd (cc)
 
-beside_hash : (s t : Option Tree) → joined (option_map hash s) (option_map hash t) ≡ option_map hash (beside s t)
+pub beside_hash : (s t : Option Tree) → joined (option_map hash s) (option_map hash t) ≡ option_map hash (beside s t)
 beside_hash None t = refl
 beside_hash (Some s) None = refl
 beside_hash (Some s) (Some t) = refl

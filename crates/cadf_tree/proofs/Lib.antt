@@ -1,6 +1,7 @@
 mod Differing
 mod Filling
 mod Judged
+mod Making
 mod OnePass
 mod Rising
 mod Showing

@@ -156,7 +156,7 @@ lower n k m j a ds all less h =
     second = omega (arith, less)
 
 -- the tree of two lists that part at bit i
-parted : (n i : ℕ) (ds es : List Text) → AllBit i false ds → AllBit i true es → divided (suc n) i (ds ++ es) ≡ beside (divided n (suc i) ds) (divided n (suc i) es)
+pub parted : (n i : ℕ) (ds es : List Text) → AllBit i false ds → AllBit i true es → divided (suc n) i (ds ++ es) ≡ beside (divided n (suc i) ds) (divided n (suc i) es)
 unfolding divided
 parted n i ds es h k = λ j. beside (divided n (suc i) (low j)) (divided n (suc i) (high j))
   where

@@ -219,7 +219,7 @@ all_kept P p (d ∷ ds) h = by (p d) (all_kept P p ds h.1)
     by true rest = (h.0, rest)
     by false rest = rest
 
-rises_kept : (p : Text → Bool) (ds : List Text) → Rises ds → Rises (filter p ds)
+pub rises_kept : (p : Text → Bool) (ds : List Text) → Rises ds → Rises (filter p ds)
 rises_kept p [] h = tt
 rises_kept p (d ∷ ds) h = by (p d) (rises_kept p ds h.1)
   where
@@ -247,7 +247,7 @@ not_true : (x : Bool) → not x ≡ true → x ≡ false
 not_true true e = sym e
 not_true false e = refl
 
-zeros_have : (i : ℕ) (w : ℕ → Bool) (ds : List Text) → AllHave i w ds → AllHave (suc i) (with_bit i false w) (zeros i ds)
+pub zeros_have : (i : ℕ) (w : ℕ → Bool) (ds : List Text) → AllHave i w ds → AllHave (suc i) (with_bit i false w) (zeros i ds)
 zeros_have i w [] h = tt
 zeros_have i w (d ∷ ds) h = by (bit i d) refl (zeros_have i w ds h.1)
   where
@@ -255,7 +255,7 @@ zeros_have i w (d ∷ ds) h = by (bit i d) refl (zeros_have i w ds h.1)
     by true e rest = rest
     by false e rest = (have_more i false w d h.0 e, rest)
 
-ones_have : (i : ℕ) (w : ℕ → Bool) (ds : List Text) → AllHave i w ds → AllHave (suc i) (with_bit i true w) (ones i ds)
+pub ones_have : (i : ℕ) (w : ℕ → Bool) (ds : List Text) → AllHave i w ds → AllHave (suc i) (with_bit i true w) (ones i ds)
 ones_have i w [] h = tt
 ones_have i w (d ∷ ds) h = by (bit i d) refl (ones_have i w ds h.1)
   where
@@ -263,7 +263,7 @@ ones_have i w (d ∷ ds) h = by (bit i d) refl (ones_have i w ds h.1)
     by true e rest = (have_more i true w d h.0 e, rest)
     by false e rest = rest
 
-one_at_most : (i w : ℕ) (v : ℕ → Bool) (ds : List Text) → i ≡ 256 → AllHave i v ds → Rises ds → length ds ≤ 1
+pub one_at_most : (i w : ℕ) (v : ℕ → Bool) (ds : List Text) → i ≡ 256 → AllHave i v ds → Rises ds → length ds ≤ 1
 one_at_most i w v [] full h r = omega arith
 one_at_most i w v (d ∷ []) full h r = omega arith
 one_at_most i w v (d ∷ e ∷ ds) full h r =
@@ -279,7 +279,7 @@ are_apart (suc n) i v ds full h r = (
   are_apart n (suc i) (with_bit i true v) (ones i ds) (omega (arith, full)) (ones_have i v ds h) (rises_kept (λ d. bit i d) ds r),
 )
 
-none_have : (v : ℕ → Bool) (ds : List Text) → AllHave 0 v ds
+pub none_have : (v : ℕ → Bool) (ds : List Text) → AllHave 0 v ds
 none_have v [] = tt
 none_have v (d ∷ ds) = ((λ j low. absurd (omega (arith, low))), none_have v ds)
 
@@ -317,7 +317,7 @@ all_high : (i : ℕ) (w : ℕ → Bool) (d : Text) (ds : List Text) → ((j : �
 all_high i w d [] f h b high = tt
 all_high i w d (e ∷ ds) f h b high = (after_one i w d e f h.0 b.0 high, all_high i w d ds f h.1 b.1 high)
 
-halves_are : (i : ℕ) (w : ℕ → Bool) (ds : List Text) → AllHave i w ds → Rises ds → zeros i ds ++ ones i ds ≡ ds
+pub halves_are : (i : ℕ) (w : ℕ → Bool) (ds : List Text) → AllHave i w ds → Rises ds → zeros i ds ++ ones i ds ≡ ds
 halves_are i w [] h r = refl
 halves_are i w (d ∷ ds) h r = by (bit i d) refl (halves_are i w ds h.1 r.1)
   where
@@ -327,7 +327,7 @@ halves_are i w (d ∷ ds) h r = by (bit i d) refl (halves_are i w ds h.1 r.1)
         λ j. zeros_none i ds high j ++ d ∷ all_in (λ x. bit i x) ds high j
     by false e same = ap (λ l. d ∷ l) same
 
-leaves_from : (n i : ℕ) (w : ℕ → Bool) (ds : List Text) → n + i ≡ 256 → AllHave i w ds → Rises ds → all_leaves (divided n i ds) ≡ ds
+pub leaves_from : (n i : ℕ) (w : ℕ → Bool) (ds : List Text) → n + i ≡ 256 → AllHave i w ds → Rises ds → all_leaves (divided n i ds) ≡ ds
 unfolding divided
 leaves_from zero i w [] full h r = refl
 leaves_from zero i w (d ∷ []) full h r = refl

@@ -24,8 +24,8 @@ use Rattle.cadf_tree.specs.declared.parts.Part.{Part}
 use Rattle.cadf_tree.specs.declared.parts.Part.TheVariants.{Node, Hash, Leaf}
 use Rattle.cadf_tree.specs.declared.growth.Growth.{Growth}
 use Rattle.cadf_tree.specs.declared.growth.Sides.{Sides}
-use Rattle.cadf_tree.specs.declared.growth.Rule.{Rule}
-use Rattle.cadf_tree.specs.declared.growth.Rule.TheVariants.{Rising, Seen}
+use Rattle.cadf_tree.specs.declared.growth.Beside.{Beside}
+use Rattle.cadf_tree.specs.declared.growth.Beside.TheVariants.{Rising, Seen}
 use Rattle.cadf_tree.specs.declared.growth.TreeFault.{TreeFault}
 use Rattle.cadf_tree.specs.declared.growth.TreeFault.TheVariants.{OtherCount, NoTree, OtherEarlierRoot, OtherLaterRoot, Order, NeighbourHidden, NotNeeded}
 
@@ -79,7 +79,7 @@ has_changed (Leaf Gone d) = true
 abbrev pub is_seen : Part → Part → Bool
 is_seen x y = not ((is_hash x && has_changed y) || (has_changed x && is_hash y))
 
-abbrev pub fits : Rule → Part → Part → Bool
+abbrev pub fits : Beside → Part → Part → Bool
 fits Rising x y = rise x y
 fits Seen x y = is_seen x y
 

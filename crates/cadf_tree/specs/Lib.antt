@@ -1,5 +1,6 @@
 pub mod Grown
 pub mod GrowthLaws
+pub mod Made
 pub mod OnePass
 pub mod Presence
 pub mod Pruned

@@ -45,7 +45,7 @@ struct Sides {
 
 /// Which parts may be beside each other.
 #[derive(Clone, Copy, Debug)]
-enum Rule {
+enum Beside {
     /// Leaves that rise.
     Rising,
     /// Anything but a hash and what changed.
@@ -99,15 +99,15 @@ fn counts_agree(earlier: &Root, later: &Root, parts: &[Part]) -> bool
 // ---- parts beside each other
 
 /// Returns whether the second part may be beside the first one.
-fn fits(rule: &Rule, first: &Part, second: &Part) -> bool
+fn fits(rule: &Beside, first: &Part, second: &Part) -> bool
     ensures { result ≡ fits rule.now first.now second.now }
 {
     match rule {
-        Rule::Rising => match (first, second) {
+        Beside::Rising => match (first, second) {
             (Part::Leaf(_, first), Part::Leaf(_, second)) => first.cmp(second).is_lt(),
             _ => true,
         },
-        Rule::Seen => !((is_hash(first) && has_changed(second))
+        Beside::Seen => !((is_hash(first) && has_changed(second))
             || (has_changed(first) && is_hash(second))),
     }
 }
@@ -134,7 +134,7 @@ fn has_changed(part: &Part) -> bool
 }
 
 /// Returns whether the part fits what comes before it, if anything does. A node fits.
-fn follows(rule: &Rule, before: &Option<Part>, part: &Part) -> bool
+fn follows(rule: &Beside, before: &Option<Part>, part: &Part) -> bool
     ensures { result ≡ follows (fits rule.now) before.now part.now }
 {
     match (before, part) {
@@ -155,7 +155,7 @@ pub(crate) fn latest(before: Option<Part>, part: &Part) -> Option<Part>
 }
 
 /// Returns whether all parts beside each other fit, where nodes are left out.
-fn all_fit(rule: &Rule, parts: &[Part]) -> bool
+fn all_fit(rule: &Beside, parts: &[Part]) -> bool
     ensures { result ≡ all_beside (fits rule.now) (items parts.now) }
 {
     let mut before = None;
@@ -255,10 +255,10 @@ fn roots_fault(earlier: &Root, later: &Root, sides: &Sides) -> Option<TreeFault>
 fn order_fault(parts: &[Part], spare: bool) -> Option<TreeFault>
     ensures { result ≡ order_fault parts.now spare }
 {
-    if !all_fit(&Rule::Rising, parts) {
+    if !all_fit(&Beside::Rising, parts) {
         return Some(TreeFault::Order);
     }
-    if !all_fit(&Rule::Seen, parts) {
+    if !all_fit(&Beside::Seen, parts) {
         return Some(TreeFault::NeighbourHidden);
     }
     if spare {

@@ -1,6 +1,7 @@
 //! Laws over the definitions alone. Each function's contract is a theorem, and its body is empty.
 ghost use Rattle.std.specs.Prelude.{◌≡◌, List, ℕ};
 ghost use Rattle.cadf_tree.specs.GrowthLaws.{EarlierIsHonest, LaterIsHonest, BothAreHonest};
+ghost use Rattle.cadf_tree.specs.Made.{MadeIsRead, MadeHasBothRoots};
 ghost use Rattle.cadf_tree.specs.Presence.{PresenceIsSound};
 ghost use Rattle.cadf_tree.specs.Tree.{IsSet, all_leaves, tree_of};
 
@@ -21,4 +22,11 @@ pub fn growth_is_sound()
 /// States that what parts under the root of a set show of a digest is so, if what is hashed doesn't collide.
 pub fn presence_is_sound()
     ensures { PresenceIsSound }
+{}
+
+/// States that the parts that are made of a set's tree are read as the tree that was made, and that each side of it has the
+/// root of that side's digests, whichever leaves are shown.
+pub fn made_tree_has_both_roots()
+    ensures read { MadeIsRead }
+    ensures roots { MadeHasBothRoots }
 {}
