@@ -1,5 +1,6 @@
 mod Differing
 mod Filling
+mod Halving
 mod Judged
 mod Making
 mod OnePass

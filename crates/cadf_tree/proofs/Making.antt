@@ -115,7 +115,7 @@ none_left zero ks h = h
 none_left (suc n) [] h = refl
 none_left (suc n) (k ∷ ks) h = none_left n ks (or_rest (is_shown k) (any_shown ks) h)
 
-first_none : (ks : Kinds) → any_shown ks ≡ false → first_kind ks ≡ None
+pub first_none : (ks : Kinds) → any_shown ks ≡ false → first_kind ks ≡ None
 first_none [] h = refl
 first_none (None ∷ ks) h = refl
 first_none (Some k ∷ ks) h = absurd (cc)
@@ -155,7 +155,7 @@ root_side on (Some t) ks = ap (λ h. unwrap_or h (sha256 [])) (made_side on t ks
 
 -- ---- it is the tree of that side's digests
 
-size_leaves : (t : Tree) → size t ≡ length (leaves t)
+pub size_leaves : (t : Tree) → size t ≡ length (leaves t)
 size_leaves (Tip d) = refl
 size_leaves (Branch l r) = (λ i. size_leaves l i + size_leaves r i) ∙ sym (length-append (leaves l) (leaves r))
 

@@ -45,7 +45,7 @@ pub share_parting : (a b : Text) → Share (parting a b) a b
 unfolding parting
 share_parting a b = shared_from 256 0 a b (λ j low. absurd (omega (arith, low)))
 
-share_fewer : (j k : ℕ) (a b : Text) → j ≤ k → Share k a b → Share j a b
+pub share_fewer : (j k : ℕ) (a b : Text) → j ≤ k → Share k a b → Share j a b
 share_fewer j k a b less h i low = h i (omega (arith, low, less))
 
 -- digests that differ at a bit part there or before
@@ -71,7 +71,7 @@ all_right : (P : Text → Type 0) (ds es : List Text) → AllByRecursion P (ds +
 all_right P [] es h = h
 all_right P (d ∷ ds) es h = all_right P ds es h.1
 
-all_more : (P R : Text → Type 0) (ds : List Text) → ((d : Text) → P d → R d) → AllByRecursion P ds → AllByRecursion R ds
+pub all_more : (P R : Text → Type 0) (ds : List Text) → ((d : Text) → P d → R d) → AllByRecursion P ds → AllByRecursion R ds
 all_more P R [] f h = tt
 all_more P R (d ∷ ds) f h = (f d h.0, all_more P R ds f h.1)
 
@@ -102,7 +102,7 @@ zeros_none i ds h = all_out (λ d. not (bit i d)) ds (all_more (λ d. bit i d �
 
 -- ---- trees of such lists
 
-trie_none : (n i : ℕ) → divided n i [] ≡ None
+pub trie_none : (n i : ℕ) → divided n i [] ≡ None
 unfolding divided
 trie_none zero i = refl
 trie_none (suc n) i = λ j. beside (trie_none n (suc i) j) (trie_none n (suc i) j)
@@ -145,7 +145,7 @@ lift (suc m) n i k a ds most h =
     other = omega arith
 
 -- from k bits that are shared to fewer
-lower : (n k m j : ℕ) (a : Text) (ds : List Text) → n + k ≡ m + j → j ≤ k → AllShare k a ds → divided m j ds ≡ divided n k ds
+pub lower : (n k m j : ℕ) (a : Text) (ds : List Text) → n + k ≡ m + j → j ≤ k → AllShare k a ds → divided m j ds ≡ divided n k ds
 lower n k m j a ds all less h =
     ap (λ c. divided c j ds) first ∙ lift (k - j) n j k a ds (omega (arith, less)) h ∙ ap (λ c. divided n c ds) second
   where
@@ -216,11 +216,11 @@ module _ (a : Text) (done : List Text) (n k m : ℕ) (t : Tree) where
     hash = refl;
   }
 
-trie_end : (i : ℕ) (d : Text) → divided zero i (d ∷ []) ≡ Some (Tip d)
+pub trie_end : (i : ℕ) (d : Text) → divided zero i (d ∷ []) ≡ Some (Tip d)
 unfolding divided
 trie_end i d = refl
 
-share_itself : (k : ℕ) (a : Text) → Share k a a
+pub share_itself : (k : ℕ) (a : Text) → Share k a a
 share_itself k a j low = refl
 
 module _ (a d : Text) (done ds : List Text) (m k n j c p w : ℕ) (t : Tree) (mid out : Text × List Text) where

@@ -5,10 +5,12 @@ mod growth;
 mod laws;
 mod parts;
 mod presence;
+mod pruning;
 mod tree;
 
 pub use growth::{Growth, TreeFault, grew};
 pub use laws::{growth_is_sound, made_tree_has_both_roots, presence_is_sound, tree_has_the_set};
 pub use parts::{Kind, Part};
 pub use presence::{shown, state};
+pub use pruning::parts_of;
 pub use tree::{Root, root_of};

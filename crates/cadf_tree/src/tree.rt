@@ -46,7 +46,7 @@ pub(crate) fn hash_of_root(count: u64, hash: &[u8; 32]) -> [u8; 32]
 
 /// Returns a bit of a digest, from the highest of its first byte.
 #[tactic(auto, unfolding(crate::specs::Tree::bit))]
-fn bit(digest: &[u8; 32], place: usize) -> bool
+pub(crate) fn bit(digest: &[u8; 32], place: usize) -> bool
     requires { place < 256 }
     ensures { result ≡ bit place digest.now }
 {
@@ -55,7 +55,7 @@ fn bit(digest: &[u8; 32], place: usize) -> bool
 
 /// Returns the first bit at which two digests differ, or 256.
 #[tactic(auto, using(crate::proofs::Steps::parting_next, crate::proofs::Steps::parting_here, crate::proofs::Steps::parting_none), unfolding(crate::specs::OnePass::parting))]
-fn parting(left: &[u8; 32], right: &[u8; 32]) -> usize
+pub(crate) fn parting(left: &[u8; 32], right: &[u8; 32]) -> usize
     ensures place { result ≡ parting left.now right.now }
     ensures most { result ≤ 256 }
 {
@@ -91,7 +91,7 @@ fn extended<'a>(
 }
 
 /// Computes the hash of the tree of a set of digests.
-fn hash_of_tree(digests: &[[u8; 32]]) -> [u8; 32]
+pub(crate) fn hash_of_tree(digests: &[[u8; 32]]) -> [u8; 32]
     requires { Rises digests.now }
     ensures { result ≡ tree_hash (tree_of digests.now) }
 {

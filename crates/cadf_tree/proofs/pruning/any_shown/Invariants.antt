@@ -1,0 +1,6 @@
+use Rattle.std.proofs.Common.{◌≡◌, drop}
+use Rattle.cadf_tree.specs.Made.{any_shown}
+use Rattle.cadf_tree.proofs.pruning.any_shown.Given as goal
+
+abbrev pub invariant-loop-kind : goal.invariant-loop-kind
+invariant-loop-kind l = any_shown l.kinds ≡ any_shown (drop l.kind-index l.kinds)

@@ -1,0 +1,6 @@
+use Rattle.std.proofs.Common.{◌≡◌, ◌+◌, ◌≤◌, length, drop}
+use Rattle.cadf_tree.specs.Tree.{zeros}
+use Rattle.cadf_tree.proofs.pruning.number_of_zeros.Given as goal
+
+abbrev pub invariant-loop-digest : goal.invariant-loop-digest
+invariant-loop-digest l = (l.number + length (zeros l.place (drop l.digest-index l.digests)) ≡ length (zeros l.place l.digests)) × (l.number ≤ l.digest-index)
