@@ -1,19 +1,5 @@
 -- What is accepted under the root of a set is so.
-use Rattle.std.proofs.Common.{◌≡◌, ◌∙◌, ◌+◌, ◌++◌, ℕ, Bool, true, false, List, [], ◌∷◌, Option, None, Some, length, drop, refl, ap, sym, subst, arith, inl, inr}
-use Rattle.std.specs.Prelude.{◌⊎◌, option_map, unwrap_or}
-use Rattle.std.specs.Ordering.{nat_cmp, is_lt}
-use Rattle.std.specs.Cmp.Lexicographic.{slice_cmp}
-use Rattle.std.specs.List.Sorted.{IsStrictlySortedBy}
-use Rattle.sha2.specs.Sha256.{sha256}
-use Rattle.cadf_tree.specs.Tree.{Text, Tree, hash, tree_hash, all_leaves, tree_of, root, root_text, root_hash, IsSet}
-use Rattle.cadf_tree.specs.Pruned.{Pruned, side_hash, side_root, read_all, items, leaves_of, is_earlier, is_later, number}
-use Rattle.cadf_tree.specs.Grown.{hidden_leaves, are_equal, all_beside, rise, is_seen, has_changed}
-use Rattle.cadf_tree.specs.GrowthLaws.{DoNotCollide, TreeHashes, IsHashedFor, SideHashes, AllSideHashes, IsHashedOf, IsHashedBy, HaveHashes, all_kinds, is_added, is_gone, those, AreRising, IsDifference, GrownFrom, GrownTo, EarlierIsHonest, LaterIsHonest, IsHashedForBoth, BothAreHonest}
-use Rattle.cadf_tree.specs.declared.tree.Root.{Root}
-use Rattle.cadf_tree.specs.declared.parts.Kind.{Kind}
-use Rattle.cadf_tree.specs.declared.parts.Kind.TheVariants.{Both, Added, Gone}
-use Rattle.cadf_tree.specs.declared.parts.Part.{Part}
-use Rattle.cadf_tree.specs.declared.parts.Part.TheVariants.{Leaf}
+use Rattle.cadf_tree.proofs.Common.{◌≡◌, ◌∙◌, ◌+◌, ◌++◌, ℕ, Bool, true, false, List, [], ◌∷◌, Option, None, Some, length, drop, refl, ap, sym, subst, arith, inl, inr, ◌⊎◌, option_map, unwrap_or, nat_cmp, is_lt, slice_cmp, IsStrictlySortedBy, sha256, Text, Tree, hash, tree_hash, all_leaves, tree_of, root, root_text, root_hash, IsSet, Pruned, side_hash, side_root, read_all, items, leaves_of, is_earlier, is_later, number, hidden_leaves, are_equal, all_beside, rise, is_seen, has_changed, DoNotCollide, TreeHashes, IsHashedFor, SideHashes, AllSideHashes, IsHashedOf, IsHashedBy, HaveHashes, all_kinds, is_added, is_gone, those, AreRising, IsDifference, GrownFrom, GrownTo, EarlierIsHonest, LaterIsHonest, IsHashedForBoth, BothAreHonest, Root, Kind, Both, Added, Gone, Part, Leaf}
 use Rattle.cadf_tree.proofs.Sorted.{leaves_are}
 use Rattle.cadf_tree.proofs.Filling.{Cell, Block, One, cell_items, side_leaves, marked, those_marked, those_append, plain, AllOf, fill, none_some, not_none, all_determined}
 use Rattle.cadf_tree.proofs.Rising.{rises, false_true}

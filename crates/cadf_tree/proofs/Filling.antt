@@ -1,16 +1,5 @@
 -- A pruned tree with the hash of a tree shows leaves of it, and its hashes are those of parts of it.
-use Rattle.std.proofs.Common.{◌≡◌, ◌∙◌, ◌++◌, ℕ, Bool, true, false, List, [], ◌∷◌, Option, None, Some, length, take, drop, refl, ap, sym, subst, append_assoc, append-nil, inl, inr}
-use Rattle.std.specs.Prelude.{option_map, if◌then◌else◌}
-use Rattle.std.proofs.lemmas.List.{take_at, append_cancel_left}
-use Rattle.sha2.specs.Sha256.{sha256}
-use Rattle.sha2.proofs.Facts256.{length-sha256}
-use Rattle.cadf_tree.specs.Tree.{Text, Tree, Tip, Branch, leaf_text, node_text, leaf_hash, node_hash, hash, leaves, tree_hash, all_leaves, beside}
-use Rattle.cadf_tree.specs.Pruned.{Pruned, Hidden, Shown, Fork, joined, side_hash}
-use Rattle.cadf_tree.specs.GrowthLaws.{DoNotCollide, Hashes, JoinedHashes, SideHashes, Marked, those}
-use Rattle.cadf_tree.specs.declared.parts.Kind.{Kind}
-use Rattle.cadf_tree.specs.declared.parts.Kind.TheVariants.{Both}
-use Rattle.cadf_tree.specs.declared.parts.Part.{Part}
-use Rattle.cadf_tree.specs.declared.parts.Part.TheVariants.{Hash, Leaf}
+use Rattle.cadf_tree.proofs.Common.{◌≡◌, ◌∙◌, ◌++◌, ℕ, Bool, true, false, List, [], ◌∷◌, Option, None, Some, length, take, drop, refl, ap, sym, subst, append_assoc, append-nil, inl, inr, option_map, if◌then◌else◌, take_at, append_cancel_left, sha256, length-sha256, Text, Tree, Tip, Branch, leaf_text, node_text, leaf_hash, node_hash, hash, leaves, tree_hash, all_leaves, beside, Pruned, Hidden, Shown, Fork, joined, side_hash, DoNotCollide, Hashes, JoinedHashes, SideHashes, Marked, those, Kind, Both, Part, Hash, Leaf}
 use Rattle.cadf_tree.proofs.OnePass.{beside_leaves}
 
 -- ---- hashes

@@ -1,15 +1,5 @@
 -- The tree of digests that rise is a node of the trees of those before and after the place where the first and the last one part.
-use Rattle.std.proofs.Common.{◌≡◌, ◌∙◌, ◌+◌, ◌-◌, ◌<◌, ◌≤◌, ◌++◌, ℕ, suc, Bool, true, false, cond, List, [], ◌∷◌, Option, None, Some, length, take, drop, get_or, refl, ap, sym, subst, arith, append-nil, length-append}
-use Rattle.std.specs.Prelude.{nat_lt, not, if◌then◌else◌}
-use Rattle.std.specs.List.{AllByRecursion}
-use Rattle.std.proofs.lemmas.Bool.{ltb-true, ltb-false}
-use Rattle.cadf_tree.specs.Tree.{Text, Tree, Tip, Branch, hash, tree_hash, all_leaves, beside, bit, zeros, ones, divided, tree_of}
-use Rattle.cadf_tree.specs.OnePass.{parting, IsBefore, Rises}
-use Rattle.cadf_tree.specs.Pruned.{Hidden, Fork}
-use Rattle.cadf_tree.specs.Made.{Kinds, any_shown, size, IsHalved, leaf_part, made_leaf, made, preorder, made_parts}
-use Rattle.cadf_tree.specs.declared.parts.Kind.{Kind}
-use Rattle.cadf_tree.specs.declared.parts.Part.{Part}
-use Rattle.cadf_tree.specs.declared.parts.Part.TheVariants.{Node, Hash}
+use Rattle.cadf_tree.proofs.Common.{◌≡◌, ◌∙◌, ◌+◌, ◌-◌, ◌<◌, ◌≤◌, ◌++◌, ℕ, suc, Bool, true, false, cond, List, [], ◌∷◌, Option, None, Some, length, take, drop, get_or, refl, ap, sym, subst, arith, append-nil, length-append, nat_lt, not, if◌then◌else◌, AllByRecursion, ltb-true, ltb-false, Text, Tree, Tip, Branch, hash, tree_hash, all_leaves, beside, bit, zeros, ones, divided, tree_of, parting, IsBefore, Rises, Hidden, Fork, Kinds, any_shown, size, IsHalved, leaf_part, made_leaf, made, preorder, made_parts, Kind, Part, Node, Hash}
 use Rattle.cadf_tree.proofs.OnePass.{trie_none, Share, AllShare, share_parting, share_fewer, share_itself, lower, all_more, trie_end}
 use Rattle.cadf_tree.proofs.Sorted.{halves_are, leaves_from, none_have, rises_kept}
 use Rattle.cadf_tree.proofs.Making.{first_none, size_leaves}

@@ -1,21 +1,5 @@
 -- What is accepted satisfies each check.
-use Rattle.std.proofs.Common.{◌≡◌, ◌∙◌, ◌+◌, ◌-◌, ◌++◌, ℕ, zero, suc, Bool, true, false, List, [], ◌∷◌, Option, None, Some, length, refl, ap, sym, subst, arith, append_assoc, append-nil}
-use Rattle.std.specs.Prelude.{not, nat_eq, nat_lt, nat_le, if◌then◌else◌, option_map, Ok}
-use Rattle.std.specs.Option.{option_or}
-use Rattle.std.specs.List.{filter}
-use Rattle.std.proofs.lemmas.Bool.{leb-true, ltb-false, eqb-true}
-use Rattle.cadf_tree.specs.Tree.{Text, root_hash, leaf_hash}
-use Rattle.cadf_tree.specs.Pruned.{Pruned, Hidden, Shown, Fork, Read, beside_read, both_read, read, whole, read_all, items, joined, side_hash, side_root, is_earlier, is_later, is_of, number, leaves_of}
-use Rattle.cadf_tree.specs.Grown.{is_text, may_hide, hidden_leaves, are_equal, counts_agree, all_beside, rise, is_seen, all_needed, has_spare, sides, fault_unless, roots_fault, order_fault, sides_fault, tree_fault, growth_unless, verdict}
-use Rattle.cadf_tree.specs.GrowthLaws.{HaveHashes}
-use Rattle.cadf_tree.specs.declared.tree.Root.{Root}
-use Rattle.cadf_tree.specs.declared.growth.Growth.{Growth}
-use Rattle.cadf_tree.specs.declared.growth.TreeFault.{TreeFault}
-use Rattle.cadf_tree.specs.declared.growth.TreeFault.TheVariants.{OtherCount, OtherEarlierRoot, OtherLaterRoot, Order, NeighbourHidden, NotNeeded}
-use Rattle.cadf_tree.specs.declared.parts.Kind.{Kind}
-use Rattle.cadf_tree.specs.declared.parts.Kind.TheVariants.{Both, Added, Gone}
-use Rattle.cadf_tree.specs.declared.parts.Part.{Part}
-use Rattle.cadf_tree.specs.declared.parts.Part.TheVariants.{Node, Hash, Leaf}
+use Rattle.cadf_tree.proofs.Common.{◌≡◌, ◌∙◌, ◌+◌, ◌-◌, ◌++◌, ℕ, zero, suc, Bool, true, false, List, [], ◌∷◌, Option, None, Some, length, refl, ap, sym, subst, arith, append_assoc, append-nil, not, nat_eq, nat_lt, nat_le, if◌then◌else◌, option_map, Ok, option_or, filter, leb-true, ltb-false, eqb-true, Text, root_hash, leaf_hash, Pruned, Hidden, Shown, Fork, Read, beside_read, both_read, read, whole, read_all, items, joined, side_hash, side_root, is_earlier, is_later, is_of, number, leaves_of, is_text, may_hide, hidden_leaves, are_equal, counts_agree, all_beside, rise, is_seen, all_needed, has_spare, sides, fault_unless, roots_fault, order_fault, sides_fault, tree_fault, growth_unless, verdict, HaveHashes, Root, Growth, TreeFault, OtherCount, OtherEarlierRoot, OtherLaterRoot, Order, NeighbourHidden, NotNeeded, Kind, Both, Added, Gone, Part, Node, Hash, Leaf}
 use Rattle.cadf_tree.proofs.Filling.{AreLong, shown_items}
 use Rattle.cadf_tree.proofs.Rising.{and_left, and_right, false_true}
 

@@ -7,5 +7,6 @@ mod OnePass
 mod Rising
 mod Showing
 mod Sorted
+pub mod Common
 pub mod Steps
 pub mod Walking

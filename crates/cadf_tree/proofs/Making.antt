@@ -1,14 +1,5 @@
 -- The tree that is made is read back, and both its sides have their roots.
-use Rattle.std.proofs.Common.{◌≡◌, ◌∙◌, ◌+◌, ◌≤◌, ◌++◌, ℕ, zero, suc, Bool, true, false, List, [], ◌∷◌, Option, None, Some, length, take, drop, refl, ap, sym, arith, append_assoc, append-nil, length-append, length-drop, length-take-le}
-use Rattle.std.specs.Prelude.{◌||◌, not, option_map, unwrap_or, if◌then◌else◌}
-use Rattle.std.specs.List.{filter, AllByRecursion}
-use Rattle.sha2.specs.Sha256.{sha256}
-use Rattle.cadf_tree.specs.Tree.{Text, Tree, Tip, Branch, leaf_hash, hash, leaves, tree_hash, all_leaves, beside, bit, zeros, ones, divided, tree_of}
-use Rattle.cadf_tree.specs.OnePass.{Rises}
-use Rattle.cadf_tree.specs.Pruned.{Pruned, Hidden, Shown, Fork, beside_read, both_read, read, whole, read_all, joined, side_hash, side_root}
-use Rattle.cadf_tree.specs.Made.{Kinds, first_kind, is_shown, any_shown, size, made_leaf, made, preorder, made_of, all_parts, is_on, side, MadeIsRead, MadeHasBothRoots}
-use Rattle.cadf_tree.specs.declared.parts.Kind.{Kind}
-use Rattle.cadf_tree.specs.declared.parts.Part.{Part}
+use Rattle.cadf_tree.proofs.Common.{◌≡◌, ◌∙◌, ◌+◌, ◌≤◌, ◌++◌, ℕ, zero, suc, Bool, true, false, List, [], ◌∷◌, Option, None, Some, length, take, drop, refl, ap, sym, arith, append_assoc, append-nil, length-append, length-drop, length-take-le, ◌||◌, not, option_map, unwrap_or, if◌then◌else◌, filter, AllByRecursion, sha256, Text, Tree, Tip, Branch, leaf_hash, hash, leaves, tree_hash, all_leaves, beside, bit, zeros, ones, divided, tree_of, Rises, Pruned, Hidden, Shown, Fork, beside_read, both_read, read, whole, read_all, joined, side_hash, side_root, Kinds, first_kind, is_shown, any_shown, size, made_leaf, made, preorder, made_of, all_parts, is_on, side, MadeIsRead, MadeHasBothRoots, Kind, Part}
 use Rattle.cadf_tree.proofs.OnePass.{AllBit, parted}
 use Rattle.cadf_tree.proofs.Sorted.{AllHave, with_bit, leaves_from, halves_are, zeros_have, ones_have, rises_kept, one_at_most, none_have, set_rises}
 use Rattle.cadf_tree.proofs.Filling.{beside_hash}

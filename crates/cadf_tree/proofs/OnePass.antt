@@ -1,13 +1,5 @@
 -- The hash that is made in one pass over rising leaves is that of their tree.
-use Rattle.std.proofs.Common.{◌≡◌, ◌∙◌, ◌+◌, ◌-◌, ◌<◌, ◌≤◌, ◌++◌, ℕ, zero, suc, Bool, true, false, cond, List, [], ◌∷◌, Option, None, Some, length, refl, ap, sym, subst, arith, append_assoc, append-nil, length-append}
-use Rattle.std.specs.Prelude.{not, nat_lt, if◌then◌else◌}
-use Rattle.std.specs.List.{filter, AllByRecursion}
-use Rattle.std.proofs.lemmas.Bool.{ltb-true, ltb-false}
-use Rattle.std.proofs.lemmas.List.Elements.{filter-append}
-use Rattle.sha2.specs.Sha256.{sha256}
-use Rattle.cadf_tree.specs.Tree.{Text, Tree, Tip, Branch, hash, leaves, all_leaves, leaf_hash, node_hash, tree_hash, beside}
-use Rattle.cadf_tree.specs.Tree.{bit, zeros, ones, divided, tree_of}
-use Rattle.cadf_tree.specs.OnePass.{alike, parting_from, parting, IsBefore, Rises, extended}
+use Rattle.cadf_tree.proofs.Common.{◌≡◌, ◌∙◌, ◌+◌, ◌-◌, ◌<◌, ◌≤◌, ◌++◌, ℕ, zero, suc, Bool, true, false, cond, List, [], ◌∷◌, Option, None, Some, length, refl, ap, sym, subst, arith, append_assoc, append-nil, length-append, not, nat_lt, if◌then◌else◌, filter, AllByRecursion, ltb-true, ltb-false, filter-append, sha256, Text, Tree, Tip, Branch, hash, leaves, all_leaves, leaf_hash, node_hash, tree_hash, beside, bit, zeros, ones, divided, tree_of, alike, parting_from, parting, IsBefore, Rises, extended}
 
 -- ---- bits that are shared
 

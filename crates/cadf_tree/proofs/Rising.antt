@@ -1,13 +1,5 @@
 -- If one side's leaves rise and what changed has its neighbours shown, all leaves rise.
-use Rattle.std.proofs.Common.{◌≡◌, ◌++◌, Bool, true, false, List, [], ◌∷◌, refl, sym, subst}
-use Rattle.std.specs.Prelude.{◌&&◌, if◌then◌else◌}
-use Rattle.cadf_tree.specs.Tree.{Text, less}
-use Rattle.cadf_tree.specs.Grown.{all_beside, rise, is_seen, has_changed}
-use Rattle.cadf_tree.specs.GrowthLaws.{AreRising, all_kinds}
-use Rattle.cadf_tree.specs.declared.parts.Kind.{Kind}
-use Rattle.cadf_tree.specs.declared.parts.Kind.TheVariants.{Both, Added, Gone}
-use Rattle.cadf_tree.specs.declared.parts.Part.{Part}
-use Rattle.cadf_tree.specs.declared.parts.Part.TheVariants.{Hash, Leaf}
+use Rattle.cadf_tree.proofs.Common.{◌≡◌, ◌++◌, Bool, true, false, List, [], ◌∷◌, refl, sym, subst, ◌&&◌, if◌then◌else◌, Text, less, all_beside, rise, is_seen, has_changed, AreRising, all_kinds, Kind, Both, Added, Gone, Part, Hash, Leaf}
 use Rattle.cadf_tree.proofs.Filling.{Cell, Block, One, cell_items, side_leaves}
 
 pub and_left : (a b : Bool) → (a && b) ≡ true → a ≡ true

@@ -1,20 +1,5 @@
 -- What is shown of a digest under the root of a set is so.
-use Rattle.std.proofs.Common.{◌≡◌, ◌∙◌, ◌++◌, Bool, true, false, List, [], ◌∷◌, Option, None, Some, length, refl, ap, sym, subst, inl, inr}
-use Rattle.std.specs.Prelude.{◌&&◌, ◌||◌, ◌⊎◌, if◌then◌else◌}
-use Rattle.std.specs.declared.cmp.Ordering.{Ordering}
-use Rattle.std.specs.declared.cmp.Ordering.TheVariants.{Less, Equal, Greater}
-use Rattle.std.specs.Ordering.{is_lt, is_eq}
-use Rattle.std.specs.Cmp.Lexicographic.{nat_list_cmp_total}
-use Rattle.std.specs.List.{AllByRecursion}
-use Rattle.std.proofs.lemmas.Map.Text.{is_eq-slice_cmp}
-use Rattle.cadf_tree.specs.Tree.{Text, root, less}
-use Rattle.cadf_tree.specs.Pruned.{is_earlier, is_later}
-use Rattle.cadf_tree.specs.Grown.{is_text}
-use Rattle.cadf_tree.specs.GrowthLaws.{IsHashedFor, IsHashedBy, AreRising, all_kinds}
-use Rattle.cadf_tree.specs.Presence.{is_past, is_present, is_absent, member, PresenceIsSound}
-use Rattle.cadf_tree.specs.declared.parts.Kind.TheVariants.{Both, Added, Gone}
-use Rattle.cadf_tree.specs.declared.parts.Part.{Part}
-use Rattle.cadf_tree.specs.declared.parts.Part.TheVariants.{Hash, Leaf}
+use Rattle.cadf_tree.proofs.Common.{◌≡◌, ◌∙◌, ◌++◌, Bool, true, false, List, [], ◌∷◌, Option, None, Some, length, refl, ap, sym, subst, inl, inr, ◌&&◌, ◌||◌, ◌⊎◌, if◌then◌else◌, Ordering, Less, Equal, Greater, is_lt, is_eq, nat_list_cmp_total, AllByRecursion, is_eq-slice_cmp, Text, root, less, is_earlier, is_later, is_text, IsHashedFor, IsHashedBy, AreRising, all_kinds, is_past, is_present, is_absent, member, PresenceIsSound, Both, Added, Gone, Part, Hash, Leaf}
 use Rattle.cadf_tree.proofs.Sorted.{leaves_are}
 use Rattle.cadf_tree.proofs.Filling.{Cell, Block, One, cell_items, side_leaves, those_marked}
 use Rattle.cadf_tree.proofs.Rising.{and_left, and_right, false_true, rest_rising}

@@ -1,19 +1,5 @@
 -- Digests in the order of their bytes rise by bits.
-use Rattle.std.proofs.lemmas.Grind.{common_steps}
-use Rattle.std.proofs.Common.{◌≡◌, ◌∙◌, ◌+◌, ◌-◌, ◌*◌, ◌/◌, ◌%◌, ◌^◌, ◌<◌, ◌≤◌, ◌++◌, ℕ, zero, suc, Bool, true, false, cond, List, [], ◌∷◌, length, get_or, refl, ap, sym, subst, arith}
-use Rattle.std.specs.Prelude.{not, nat_lt, nat_eq, if◌then◌else◌}
-use Rattle.std.specs.declared.cmp.Ordering.{Ordering}
-use Rattle.std.specs.declared.cmp.Ordering.TheVariants.{Less, Equal, Greater}
-use Rattle.std.specs.Ordering.{nat_cmp, ordering_then}
-use Rattle.std.specs.Cmp.Lexicographic.{slice_cmp}
-use Rattle.std.specs.List.{filter, AllByRecursion}
-use Rattle.std.specs.List.Sorted.{IsStrictlySortedBy}
-use Rattle.std.proofs.lemmas.Bool.{ltb-true, ltb-false, eqb-true}
-use Rattle.std.proofs.lemmas.Nat.{le-div}
-use Rattle.std.proofs.Math.Nat.{div-mul-le_self, div-div-eq-div-mul, one-le-pow}
-use Rattle.cadf_tree.specs.Tree.{Text, IsDigest, IsSet, all_leaves, divided, tree_of}
-use Rattle.cadf_tree.specs.Tree.{bit, zeros, ones}
-use Rattle.cadf_tree.specs.OnePass.{alike, parting_from, parting, IsBefore, Rises, AreApart}
+use Rattle.cadf_tree.proofs.Common.{common_steps, ◌≡◌, ◌∙◌, ◌+◌, ◌-◌, ◌*◌, ◌/◌, ◌%◌, ◌^◌, ◌<◌, ◌≤◌, ◌++◌, ℕ, zero, suc, Bool, true, false, cond, List, [], ◌∷◌, length, get_or, refl, ap, sym, subst, arith, not, nat_lt, nat_eq, if◌then◌else◌, Ordering, Less, Equal, Greater, nat_cmp, ordering_then, slice_cmp, filter, AllByRecursion, IsStrictlySortedBy, ltb-true, ltb-false, eqb-true, le-div, div-mul-le_self, div-div-eq-div-mul, one-le-pow, Text, IsDigest, IsSet, all_leaves, divided, tree_of, bit, zeros, ones, alike, parting_from, parting, IsBefore, Rises, AreApart}
 use Rattle.cadf_tree.proofs.OnePass.{Share, part_at_most, share_parting, zeros_none, all_in, beside_leaves}
 
 -- ---- the bits of a byte, by their weight

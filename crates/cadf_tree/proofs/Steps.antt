@@ -1,10 +1,5 @@
 -- One step of the pass over leaves, and that it ends.
-use Rattle.std.proofs.Common.{◌≡◌, ◌∙◌, ◌+◌, ◌-◌, ◌<◌, ◌≤◌, ℕ, zero, suc, Bool, true, false, List, [], ◌∷◌, length, refl, ap, sym, subst, arith}
-use Rattle.std.specs.Prelude.{nat_lt, if◌then◌else◌}
-use Rattle.std.proofs.lemmas.Bool.{lt-ltb, le-ltb}
-use Rattle.cadf_tree.specs.Tree.{Text, leaf_hash, node_hash}
-use Rattle.cadf_tree.specs.Tree.{bit}
-use Rattle.cadf_tree.specs.OnePass.{alike, parting_from, parting, extended}
+use Rattle.cadf_tree.proofs.Common.{◌≡◌, ◌∙◌, ◌+◌, ◌-◌, ◌<◌, ◌≤◌, ℕ, zero, suc, Bool, true, false, List, [], ◌∷◌, length, refl, ap, sym, subst, arith, nat_lt, if◌then◌else◌, lt-ltb, le-ltb, Text, leaf_hash, node_hash, bit, alike, parting_from, parting, extended}
 
 pub shorter : (f : ℕ) (a h : Text) (ds : List Text) (k : ℕ) → length (extended f a h ds k).1 ≤ length ds
 shorter zero a h ds k = omega arith

@@ -1,16 +1,5 @@
 -- Parts that are gone through with the nodes among them.
-use Rattle.std.proofs.Common.{◌≡◌, ◌∙◌, ◌+◌, ◌<◌, ◌≤◌, ◌-◌, ℕ, take, drop, get_or, length, arith, Bool, true, false, List, [], ◌∷◌, Option, None, Some, refl, ap, sym}
-use Rattle.std.specs.Prelude.{◌&&◌, option_map}
-use Rattle.std.proofs.lemmas.List.{drop_more, take_rest}
-use Rattle.cadf_tree.specs.Pruned.{items, Read, read, read_all, whole, summaries}
-use Rattle.cadf_tree.specs.Grown.{all_beside, sides}
-use Rattle.cadf_tree.specs.Tree.{Text}
-use Rattle.cadf_tree.specs.Presence.{all_asked}
-use Rattle.cadf_tree.specs.Walked.{latest, walked, is_asked, whole_sides}
-use Rattle.cadf_tree.specs.declared.growth.Sides.{Sides}
-use Rattle.cadf_tree.specs.declared.parts.Summary.{Summary}
-use Rattle.cadf_tree.specs.declared.parts.Part.{Part}
-use Rattle.cadf_tree.specs.declared.parts.Part.TheVariants.{Node, Hash, Leaf}
+use Rattle.cadf_tree.proofs.Common.{◌≡◌, ◌∙◌, ◌+◌, ◌<◌, ◌≤◌, ◌-◌, ℕ, take, drop, get_or, length, arith, Bool, true, false, List, [], ◌∷◌, Option, None, Some, refl, ap, sym, ◌&&◌, option_map, drop_more, take_rest, items, Read, read, read_all, whole, summaries, all_beside, sides, Text, all_asked, latest, walked, is_asked, whole_sides, Sides, Summary, Part, Node, Hash, Leaf}
 
 abbrev pub after : Option Part → List Part → List Part
 after None xs = xs

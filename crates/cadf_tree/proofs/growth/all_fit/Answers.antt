@@ -1,5 +1,4 @@
-use Rattle.std.proofs.Common.{None, sym}
-use Rattle.cadf_tree.specs.Grown.{fits}
+use Rattle.cadf_tree.proofs.Common.{None, sym, fits}
 use Rattle.cadf_tree.proofs.Walking.{walk_items}
 use Rattle.cadf_tree.proofs.growth.all_fit.Goals as goal
 

@@ -1,7 +1,4 @@
-use Rattle.std.proofs.Common.{◌≡◌, drop}
-use Rattle.cadf_tree.specs.Pruned.{items}
-use Rattle.cadf_tree.specs.Grown.{all_beside, fits}
-use Rattle.cadf_tree.specs.Walked.{walked}
+use Rattle.cadf_tree.proofs.Common.{◌≡◌, drop, items, all_beside, fits, walked}
 use Rattle.cadf_tree.proofs.growth.all_fit.Given as goal
 
 abbrev pub invariant-loop-part : goal.invariant-loop-part

@@ -1,6 +1,4 @@
-use Rattle.std.proofs.Common.{◌≡◌, false, drop}
-use Rattle.cadf_tree.specs.Pruned.{items}
-use Rattle.cadf_tree.specs.Grown.{all_needed}
+use Rattle.cadf_tree.proofs.Common.{◌≡◌, false, drop, items, all_needed}
 use Rattle.cadf_tree.proofs.growth.all_needed.Given as goal
 
 abbrev pub invariant-loop-index : goal.invariant-loop-index

@@ -1,6 +1,4 @@
-use Rattle.std.proofs.Common.{◌≡◌, drop}
-use Rattle.cadf_tree.specs.Pruned.{items}
-use Rattle.cadf_tree.specs.Grown.{first_changed}
+use Rattle.cadf_tree.proofs.Common.{◌≡◌, drop, items, first_changed}
 use Rattle.cadf_tree.proofs.growth.next_changed.Given as goal
 
 abbrev pub invariant-loop-part : goal.invariant-loop-part

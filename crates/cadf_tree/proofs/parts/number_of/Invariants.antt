@@ -1,6 +1,4 @@
-use Rattle.std.proofs.Common.{◌≡◌, ◌+◌, ◌≤◌, length, drop}
-use Rattle.std.specs.List.{filter}
-use Rattle.cadf_tree.specs.Pruned.{is_of}
+use Rattle.cadf_tree.proofs.Common.{◌≡◌, ◌+◌, ◌≤◌, length, drop, filter, is_of}
 use Rattle.cadf_tree.proofs.parts.number_of.Given as goal
 
 abbrev pub invariant-loop-part : goal.invariant-loop-part

@@ -1,6 +1,4 @@
-use Rattle.std.proofs.lemmas.Grind.{common_steps}
-use Rattle.std.proofs.Common.{◌≡◌, ◌<◌, length, true, arith}
-use Rattle.cadf_tree.specs.declared.parts.Part.TheVariants.{Node}
+use Rattle.cadf_tree.proofs.Common.{common_steps, ◌≡◌, ◌<◌, length, true, arith, Node}
 use Rattle.cadf_tree.proofs.Walking.{asked_loop}
 use Rattle.cadf_tree.proofs.presence.all_asked.Goals as goal
 

@@ -1,7 +1,4 @@
-use Rattle.std.proofs.Common.{◌≡◌, drop}
-use Rattle.std.specs.Prelude.{None}
-use Rattle.cadf_tree.specs.Pruned.{items}
-use Rattle.cadf_tree.specs.Presence.{all_asked}
+use Rattle.cadf_tree.proofs.Common.{◌≡◌, drop, None, items, all_asked}
 use Rattle.cadf_tree.proofs.presence.all_asked.Given as goal
 
 abbrev pub invariant-loop-index : goal.invariant-loop-index

@@ -1,6 +1,4 @@
-use Rattle.std.proofs.Common.{◌≡◌, drop}
-use Rattle.cadf_tree.specs.Pruned.{items}
-use Rattle.cadf_tree.specs.Presence.{first_part}
+use Rattle.cadf_tree.proofs.Common.{◌≡◌, drop, items, first_part}
 use Rattle.cadf_tree.proofs.presence.first_part.Given as goal
 
 abbrev pub invariant-loop-part : goal.invariant-loop-part

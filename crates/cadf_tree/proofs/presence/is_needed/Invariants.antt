@@ -1,6 +1,4 @@
-use Rattle.std.proofs.Common.{◌≡◌, drop}
-use Rattle.std.specs.List.{list_any}
-use Rattle.cadf_tree.specs.Presence.{needs}
+use Rattle.cadf_tree.proofs.Common.{◌≡◌, drop, list_any, needs}
 use Rattle.cadf_tree.proofs.presence.is_needed.Given as goal
 
 abbrev pub invariant-loop-digest : goal.invariant-loop-digest

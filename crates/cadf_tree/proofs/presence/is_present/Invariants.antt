@@ -1,6 +1,4 @@
-use Rattle.std.proofs.Common.{◌≡◌, drop}
-use Rattle.cadf_tree.specs.Pruned.{items}
-use Rattle.cadf_tree.specs.Presence.{is_present}
+use Rattle.cadf_tree.proofs.Common.{◌≡◌, drop, items, is_present}
 use Rattle.cadf_tree.proofs.presence.is_present.Given as goal
 
 abbrev pub invariant-loop-part : goal.invariant-loop-part

@@ -1,6 +1,4 @@
-use Rattle.std.proofs.lemmas.Grind.{common_steps}
-use Rattle.std.proofs.Common.{◌≡◌, ◌<◌, length, false, arith}
-use Rattle.cadf_tree.specs.Made.{any_shown}
+use Rattle.cadf_tree.proofs.Common.{common_steps, ◌≡◌, ◌<◌, length, false, arith, any_shown}
 use Rattle.cadf_tree.proofs.Halving.{none_code, one_code, hidden_code}
 use Rattle.cadf_tree.proofs.pruning.+push_parts.Goals as goal
 

@@ -1,5 +1,4 @@
-use Rattle.std.proofs.Common.{◌≡◌, drop}
-use Rattle.cadf_tree.specs.Made.{any_shown}
+use Rattle.cadf_tree.proofs.Common.{◌≡◌, drop, any_shown}
 use Rattle.cadf_tree.proofs.pruning.any_shown.Given as goal
 
 abbrev pub invariant-loop-kind : goal.invariant-loop-kind

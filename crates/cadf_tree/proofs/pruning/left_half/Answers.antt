@@ -1,4 +1,4 @@
-use Rattle.std.proofs.Common.{refl}
+use Rattle.cadf_tree.proofs.Common.{refl}
 use Rattle.cadf_tree.proofs.Halving.{halve_code}
 use Rattle.cadf_tree.proofs.pruning.left_half.Goals as goal
 

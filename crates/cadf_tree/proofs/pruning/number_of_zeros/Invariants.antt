@@ -1,5 +1,4 @@
-use Rattle.std.proofs.Common.{◌≡◌, ◌+◌, ◌≤◌, length, drop}
-use Rattle.cadf_tree.specs.Tree.{zeros}
+use Rattle.cadf_tree.proofs.Common.{◌≡◌, ◌+◌, ◌≤◌, length, drop, zeros}
 use Rattle.cadf_tree.proofs.pruning.number_of_zeros.Given as goal
 
 abbrev pub invariant-loop-digest : goal.invariant-loop-digest

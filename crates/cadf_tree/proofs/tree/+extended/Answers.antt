@@ -1,5 +1,4 @@
-use Rattle.std.proofs.lemmas.Grind.{common_steps}
-use Rattle.std.proofs.Common.{◌≡◌, ◌∙◌, ◌∷◌, ap, arith}
+use Rattle.cadf_tree.proofs.Common.{common_steps, ◌≡◌, ◌∙◌, ◌∷◌, ap, arith}
 use Rattle.cadf_tree.proofs.Steps.{go_code}
 use Rattle.cadf_tree.proofs.tree.+extended.Goals as goal
 

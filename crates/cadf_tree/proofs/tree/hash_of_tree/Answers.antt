@@ -1,5 +1,4 @@
-use Rattle.std.proofs.lemmas.Grind.{common_steps}
-use Rattle.std.proofs.Common.{◌≡◌, ◌∷◌, arith}
+use Rattle.cadf_tree.proofs.Common.{common_steps, ◌≡◌, ◌∷◌, arith}
 use Rattle.cadf_tree.proofs.OnePass.{root_none, root_code}
 use Rattle.cadf_tree.proofs.tree.hash_of_tree.Goals as goal
 

@@ -1,5 +1,4 @@
-use Rattle.std.proofs.Common.{◌≡◌, ◌-◌}
-use Rattle.cadf_tree.specs.OnePass.{parting_from}
+use Rattle.cadf_tree.proofs.Common.{◌≡◌, ◌-◌, parting_from}
 use Rattle.cadf_tree.proofs.tree.parting.Given as goal
 
 abbrev pub invariant-loop-place : goal.invariant-loop-place
