@@ -6,14 +6,12 @@
 --     preorder p           the parts of p
 --     leaf_part d k        the part of a tree of one leaf
 --     made_parts o ks      the parts of that tree; of none no part
---     IsHalved ds m        what is made of the tree of ds is made of the trees of the first m and of the others
 --     side on ds ks        the digests of one side: those that aren't shown, and those of a kind that is on
 --     MadeIsRead           the parts are read as that tree
 --     MadeHasBothRoots     each side of it has the root of the digests of that side
-use Rattle.std.specs.Prelude.{◌≡◌, ◌+◌, ◌<◌, ℕ, Bool, true, false, if◌then◌else◌, List, [], ◌∷◌, ◌++◌, length, take, drop, Option, None, Some, option_map}
+use Rattle.std.specs.Prelude.{◌≡◌, ◌+◌, ℕ, Bool, true, false, if◌then◌else◌, List, [], ◌∷◌, ◌++◌, length, take, drop, Option, None, Some, option_map}
 use Rattle.std.specs.List.{list_any}
 use Rattle.cadf_tree.specs.Tree.{Text, Tree, Tip, Branch, hash, leaf_hash, tree_hash, tree_of, IsSet}
-use Rattle.cadf_tree.specs.OnePass.{Rises}
 use Rattle.cadf_tree.specs.Pruned.{Pruned, Hidden, Shown, Fork, side_root, read_all}
 use Rattle.cadf_tree.specs.declared.parts.Kind.{Kind}
 use Rattle.cadf_tree.specs.declared.parts.Part.{Part}
@@ -63,15 +61,6 @@ all_parts (Some p) = preorder p
 
 abbrev pub made_parts : Option Tree → Kinds → List Part
 made_parts o ks = all_parts (made_of o ks)
-
--- the tree of these digests has the first m of them in its left half
-pub record IsHalved (ds : List Text) (m : ℕ) : Type 0 where
-  pub some : 0 < m
-  pub less : m < length ds
-  pub low : Rises (take m ds)
-  pub high : Rises (drop m ds)
-  pub parts : (ks : Kinds) → any_shown ks ≡ true
-      → made_parts (tree_of ds) ks ≡ Node ∷ made_parts (tree_of (take m ds)) (take m ks) ++ made_parts (tree_of (drop m ds)) (drop m ks)
 
 -- ---- both sides
 

@@ -2,7 +2,8 @@
 ghost use Rattle.std.specs.Prelude.{◌≡◌, ◌<◌, ◌≤◌, ◌++◌, length, IfOk, OnOk};
 ghost use Rattle.cadf_tree.specs.Tree.{IsSet, tree_of, zeros};
 ghost use Rattle.cadf_tree.specs.OnePass.{Rises};
-ghost use Rattle.cadf_tree.specs.Made.{IsHalved, any_shown, leaf_part, made_parts};
+ghost use Rattle.cadf_tree.specs.Halved.{IsHalved};
+ghost use Rattle.cadf_tree.specs.Made.{any_shown, leaf_part, made_parts};
 
 use crate::parts::{Kind, Part};
 use crate::tree::{bit, hash_of_leaf, hash_of_tree, parting};
