@@ -1,6 +1,7 @@
 -- What the proofs of this crate take from outside. Written by tests/proofs/imports.py.
-pub use Rattle.cadf.specs.Asked.{IsAccepted, Reading, Word, if_given, letter_of, name_of, number_in, number_of, texts, ◌>>=◌}
+pub use Rattle.cadf.specs.Asked.{IsAccepted, Reading, Word, asked_by, if_given, letter_of, name_of, number_in, number_of, texts, ◌>>=◌}
 pub use Rattle.cadf.specs.Opened.{AreOpened, IsUnopened, OpenerState, and_asked, each_opened, unread}
+pub use Rattle.cadf.specs.Run.{IsUnwrittenIfStarved}
 pub use Rattle.cadf.specs.declared.stop.Stop.{Stop}
 pub use Rattle.cadf.specs.declared.stop.Stop.TheVariants.{Tool}
 pub use Rattle.cadf_arguments.specs.Arguments.{is_place, is_site_count, unit_named}
@@ -10,7 +11,7 @@ pub use Rattle.cadf_join.specs.Contents.{Text}
 pub use Rattle.cadf_line.specs.RulingTexts.{is_value_letter}
 pub use Rattle.cadf_sketch.specs.Layouts.{are_cells, is_salt}
 pub use Rattle.cadf_tool.specs.Inputs.{SourceState, source_state}
-pub use Rattle.cadf_tool.specs.Request.{accepts}
+pub use Rattle.cadf_tool.specs.Request.{accepts, task}
 pub use Rattle.cadf_tool.specs.declared.fault.ToolFault.{ToolFault}
 pub use Rattle.cadf_tool.specs.declared.fault.ToolFault.TheVariants.{Memory, ReadFault}
 pub use Rattle.cadf_tool.specs.declared.request.Request.{Request as Asked}
@@ -18,7 +19,7 @@ pub use Rattle.cadf_words.specs.Synopsis.{IsAsked, MakesRequest}
 pub use Rattle.cadf_words.specs.declared.request.Request.{Request}
 pub use Rattle.cadf_words.specs.declared.request.Request.TheVariants.{Check, Inventory, Join, Missing, MissingBy, MissingBySketch, Prove, Rehearse, Rule, Seal, Show, Sketch, Split, Verify}
 pub use Rattle.clap.specs.Walk.{Row}
-pub use Rattle.std.proofs.Common.{Bool, Err, IfErr, IfOk, IsErrAnd, IsSomeAnd, List, MatchResult, None, Ok, Option, Result, Some, [], add-one, ap, append_assoc, arith, bytes_eq, drop, drop-cons, false, get_or, if◌then◌else◌, inr, is_ok, length, ltb, map, nat_le, nat_lt, ok_or, option_map, refl, rules, suc, sym, take, take-suc, true, true≢false, zero, ℕ, ◌&&◌, ◌++◌, ◌+◌, ◌<◌, ◌∙◌, ◌∷◌, ◌≡◌, ◌≢◌, ◌≤◌}
+pub use Rattle.std.proofs.Common.{Bool, Err, IfErr, IfOk, IsErrAnd, IsSomeAnd, List, MatchResult, None, Ok, Option, Result, Some, [], add-one, ap, append_assoc, arith, bytes_eq, drop, drop-cons, false, get_or, if◌then◌else◌, inr, is_ok, length, ltb, map, nat_le, nat_lt, ok_or, option_map, refl, rules, subst, suc, sym, take, take-suc, true, true≢false, zero, ℕ, ◌&&◌, ◌++◌, ◌+◌, ◌<◌, ◌∙◌, ◌∷◌, ◌≡◌, ◌≢◌, ◌≤◌}
 pub use Rattle.std.proofs.lemmas.Bool.{and_from, and_parts, le-leb, leb-true, lt-ltb, ltb-false, ltb-true}
 pub use Rattle.std.proofs.lemmas.Fmt.{decimal-digits_value, decimal_digit, first_decimal, parse-decimal}
 pub use Rattle.std.proofs.lemmas.List.{length-append, length-map, map-append, take-append-drop}

@@ -1,5 +1,5 @@
 -- Files are opened one after another, and a fault is told.
-use Rattle.cadf.proofs.Common.{◌≡◌, ◌+◌, ◌<◌, ℕ, Bool, true, false, List, [], ◌∷◌, ◌++◌, map, take, drop, length, get_or, Option, Some, None, option_map, refl, sym, ap, ◌∙◌, add-one, append_assoc, take-suc, drop-cons, Result, Ok, Err, MatchResult, IsErrAnd, Bor, result_map_both, length-map, map-append, take-append-drop, SourceState, ToolFault, ReadFault, Memory, Stop, Tool, Word, texts, OpenerState, and_asked, each_opened, unread, AreOpened, IsUnopened}
+use Rattle.cadf.proofs.Common.{◌≡◌, ◌+◌, ◌<◌, ℕ, Bool, true, false, List, [], ◌∷◌, ◌++◌, map, take, drop, length, get_or, Option, Some, None, option_map, refl, sym, ap, ◌∙◌, add-one, append_assoc, take-suc, drop-cons, Result, Ok, Err, MatchResult, IsErrAnd, Bor, result_map_both, length-map, map-append, take-append-drop, SourceState, ToolFault, ReadFault, Memory, Stop, Tool, Word, texts, OpenerState, and_asked, each_opened, unread, AreOpened, IsUnopened, IfOk, subst, task, Asked, Request, Reading, asked_by, IsUnwrittenIfStarved}
 
 -- ---- what is asked of an opener
 
@@ -61,3 +61,23 @@ pub told : {T : Type 0} (r : Result T ToolFault) (result : Result T Stop)
 told (Ok v) result is = is
 told (Err fault) (Ok v) is = absurd is
 told (Err fault) (Err stop) is = ap Err is
+
+-- ---- if memory runs out
+
+module _ {T W : Type 0} (q : Request) (before written : W) (result : Result T Stop) where
+  pub untouched : written ≡ before → IsUnwrittenIfStarved q before written result
+  untouched same = by (asked_by q)
+    where
+      by : (r : Reading Asked) → IfOk r (λ asked. (task asked).is_whole ≡ true → result ≡ Err (Tool Memory) → written ≡ before)
+      by (Ok asked) = λ _ _. same
+      by (Err fault) = tt
+
+  pub handed_on : (asked : Asked) (r : Result T ToolFault) → asked_by q ≡ Ok asked → result ≡ result_map_both (λ v. v) Tool r
+      → ((task asked).is_whole ≡ true → r ≡ Err Memory → written ≡ before) → IsUnwrittenIfStarved q before written result
+  handed_on asked r is told memory =
+      subst (λ a. IfOk a (λ b. (task b).is_whole ≡ true → result ≡ Err (Tool Memory) → written ≡ before)) (sym is)
+      (λ whole e. memory whole (of r (sym told ∙ e)))
+    where
+      of : (s : Result T ToolFault) → result_map_both (λ v. v) Tool s ≡ Err (Tool Memory) → s ≡ Err Memory
+      of (Ok v) e = absurd (cc)
+      of (Err fault) e = cc

@@ -1,8 +1,9 @@
 -- THE COMMAND, once its words are parsed: what is opened and written, and what it answers.
 --     stop_status stop                                       the exit status
 --     IsRunOn q o after source sink before written result    the request q is run, and answered by that result
+--     IsUnwrittenIfStarved q before written result           nothing is written if memory runs out, where the task is whole
 -- An argument that is refused comes first, then a file that can't be opened; all files are opened before one is read.
-use Rattle.std.specs.Prelude.{◌≡◌, ◌⊎◌, ℕ, List, map, Result, Ok, Err}
+use Rattle.std.specs.Prelude.{◌≡◌, ◌⊎◌, ℕ, true, List, map, Result, Ok, Err, IfOk}
 use Rattle.std.specs.Result.{result_map_both}
 use Rattle.cadf_arguments.specs.Arguments.{argument_status_of}
 use Rattle.cadf_arguments.specs.declared.fault.ArgumentFault.{ArgumentFault}
@@ -10,8 +11,9 @@ use Rattle.cadf_json.specs.declared.stream.Source.{Ghosts as Source}
 use Rattle.cadf_json.specs.declared.stream.Sink.{Ghosts as Sink}
 use Rattle.cadf_tool.specs.Faults.{status_of}
 use Rattle.cadf_tool.specs.Inputs.{source_state}
-use Rattle.cadf_tool.specs.Request.{IsRequestRun}
+use Rattle.cadf_tool.specs.Request.{task, IsRequestRun}
 use Rattle.cadf_tool.specs.declared.fault.ToolFault.{ToolFault}
+use Rattle.cadf_tool.specs.declared.fault.ToolFault.TheVariants.{Memory}
 use Rattle.cadf_tool.specs.declared.request.Request.{Request as Asked}
 use Rattle.cadf_words.specs.declared.request.Request.{Request}
 use Rattle.cadf.specs.declared.stop.Stop.{Stop}
@@ -35,3 +37,8 @@ IsRunOn {T = T} q o after source sink before written result =
     ((fault : ArgumentFault) × (result ≡ Err (Argument fault)) × IsRead (asked_by q) (Err fault) × (after ≡ o) × (written ≡ before))
     ⊎ ((asked : Asked) × (r : Result T ToolFault) × (asked_by q ≡ Ok asked) × (result ≡ result_map_both (λ v. v) Tool r)
     × IsAskedRun asked (names_of q) o after source sink before written r)
+
+-- for some requests all memory is allocated before a byte is written
+abbrev pub IsUnwrittenIfStarved : {W T : Type 0} → Request → W → W → Result T Stop → Type 0
+IsUnwrittenIfStarved q before written result =
+    IfOk (asked_by q) (λ asked. (task asked).is_whole ≡ true → result ≡ Err (Tool Memory) → written ≡ before)

@@ -1,10 +1,10 @@
 //! Opens the files of a request, and runs it on them.
-ghost use Rattle.std.specs.Prelude.{◌≡◌, true, length, map, MatchResult};
+ghost use Rattle.std.specs.Prelude.{◌≡◌, true, length, map, Err, MatchResult};
 ghost use Rattle.cadf_tool.specs.Inputs.{source_state};
-ghost use Rattle.cadf_tool.specs.Request.{accepts};
+ghost use Rattle.cadf_tool.specs.Request.{accepts, task};
 ghost use Rattle.cadf.specs.Asked.{texts, names_of, IsAccepted};
 ghost use Rattle.cadf.specs.Opened.{AreOpened, IsUnopened};
-ghost use Rattle.cadf.specs.Run.{IsAskedRun, IsRunOn};
+ghost use Rattle.cadf.specs.Run.{IsAskedRun, IsRunOn, IsUnwrittenIfStarved};
 
 use crate::asked::{asked_of, names_of};
 use crate::opener::Opener;
@@ -44,8 +44,9 @@ fn run_asked<O: Opener, W: Sink>(
     output: &mut W,
 ) -> Result<(), ToolFault>
     requires { accepts asked.now (length (names_of request.now)) ≡ true }
-    ensures { IsAskedRun asked.now (names_of request.now) (O.state opener.old) (O.state opener.new) O.File.Source W.Sink
+    ensures run { IsAskedRun asked.now (names_of request.now) (O.state opener.old) (O.state opener.new) O.File.Source W.Sink
         output.old output.new result }
+    ensures memory { (task asked.now).is_whole ≡ true → result ≡ Err ToolFault.Memory → output.new ≡ output.old }
 {
     let Ok(names) = names_of(alloc, request) else {
         return Err(ToolFault::Memory);
@@ -62,7 +63,8 @@ pub(crate) fn run_request<O: Opener, W: Sink>(
     output: &mut W,
 ) -> Result<(), Stop>
     requires { IsAccepted request.now }
-    ensures { IsRunOn request.now (O.state opener.old) (O.state opener.new) O.File.Source W.Sink output.old output.new result }
+    ensures run { IsRunOn request.now (O.state opener.old) (O.state opener.new) O.File.Source W.Sink output.old output.new result }
+    ensures memory { IsUnwrittenIfStarved request.now output.old output.new result }
 {
     let asked = match asked_of(alloc, request) {
         Ok(asked) => asked,
