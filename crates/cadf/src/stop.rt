@@ -18,7 +18,7 @@ pub(crate) enum Stop {
     Tool(#[from] ToolFault),
     /// A name, a number or a letter is refused.
     #[error(transparent)]
-    Argument(#[from] ArgumentFault),
+    Argument(ArgumentFault),
 }
 
 /// Reports on standard error why the command failed, and returns the exit status.
