@@ -91,10 +91,10 @@ pub use Rattle.cadf_tool.specs.Folders.{AreFilesAfter, Begun, Exchanged, Folder,
 pub use Rattle.cadf_tool.specs.Input.{Gives, GivesAll, IsDocumentInput, IsDocumentOf, IsInput, IsInputWithin, IsParsedAsJson, IsWithinLimit, is_replica_file}
 pub use Rattle.cadf_tool.specs.InputFault.{IsBytesFault, IsBytesFaultWithin, IsCounted, IsFileRefusal, IsLoadFault, IsLoadFaultWithin, IsNoDocument, IsOfFile, IsOneTooMany, IsTooLarge, RefusesFile, failure_of, is_refusal, of_document_bytes, of_file}
 pub use Rattle.cadf_tool.specs.Inputs.{AreReadWithin, IsRefusedAs, NoneFailed, SourceState, source_state}
-pub use Rattle.cadf_tool.specs.Join.{first_named, is_other, join_from, join_in, join_of, log_of_join, of_union, on_ok, other_log, union_of, unless_other}
-pub use Rattle.cadf_tool.specs.JoinState.{IsJoinState, IsOnOk, JoinsNext, log_joined}
+pub use Rattle.cadf_tool.specs.Join.{IsOnOk, first_named, is_other, join_from, join_in, join_of, log_of_join, of_union, on_ok, other_log, union_of, unless_other}
+pub use Rattle.cadf_tool.specs.JoinState.{IsJoinState, JoinsNext, log_joined}
 pub use Rattle.cadf_tool.specs.Missing.{delta_between, if_named, missing_of, part_of_unions, under_one_log, under_one_log_at}
-pub use Rattle.cadf_tool.specs.MissingBy.{inventory_model_of, inventory_model_under, missing_by_at, missing_by_of, part_by, part_by_union}
+pub use Rattle.cadf_tool.specs.MissingBy.{IsMissingBy, IsPartAgainst, inventory_model_of, inventory_model_under, missing_by_at, missing_by_of, part_by, part_by_union}
 pub use Rattle.cadf_tool.specs.ModelInput.{inventory_spec, model_spec, proof_spec, seal_spec, sketch_spec}
 pub use Rattle.cadf_tool.specs.Prove.{proof_for}
 pub use Rattle.cadf_tool.specs.Rehearse.{IsScriptJudged, bytes_spec, final_sites, played_in, script_spec, turns_of}
@@ -105,7 +105,7 @@ pub use Rattle.cadf_tool.specs.Run.{AreLoaded, InputSpec, IsExpected, IsExpected
 pub use Rattle.cadf_tool.specs.Seal.{seal_model_of}
 pub use Rattle.cadf_tool.specs.Shown.{HaveSameOutput, checked_text, shown_text}
 pub use Rattle.cadf_tool.specs.Sites.{is_same, lines_from}
-pub use Rattle.cadf_tool.specs.Sketch.{AreAsked, IsAnswerOfResult, IsAnswerTo, IsPartOfUnionBySketch, sketch_model_of, sketch_of_result}
+pub use Rattle.cadf_tool.specs.Sketch.{AreAsked, IsAnswerTo, sketch_model_of, sketch_of_result}
 pub use Rattle.cadf_tool.specs.Told.{IsHeld, atoms_loaded, log_named, replica_model_of, under_log}
 pub use Rattle.cadf_tool.specs.TwoTexts.{AreParted, IsInList, IsInLog, IsInOne, IsShown, IsTextOf}
 pub use Rattle.cadf_tool.specs.WrittenFile.{written_file}

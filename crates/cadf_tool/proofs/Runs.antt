@@ -1,5 +1,5 @@
 -- The parts of a run, combined.
-use Rattle.cadf_tool.proofs.Common.{◌≡◌, ℕ, List, map, Result, Ok, Err, IfOk, IfErr, IsErrAnd, refl, sym, ap, ◌∙◌, subst, inl, inr, err_from_is_err_and, Sink, Source, Text, Loaded, ToolFault, FaultStage, Reading, Working, Writing, OutOfMemoryStage, fault_stage, source_state, AreReadWithin, IsOnOk, SourceTransition, InputSpec, Sources, with_number, both, all_from, AreLoaded, IsReadAs, IsReadWithin, IsFirstFault, IsFirstFaultBy, IsUnread, IsExpectedBy, IsWorkFaultBy, IsWorkedBy, IsRunBy}
+use Rattle.cadf_tool.proofs.Common.{◌≡◌, ℕ, List, map, Result, Ok, Err, IfOk, IfErr, IsErrAnd, refl, sym, ap, ◌∙◌, subst, inl, inr, err_from_is_err_and, Sink, Source, Text, Loaded, ToolFault, FaultStage, Reading, Working, Writing, OutOfMemoryStage, fault_stage, source_state, AreReadWithin, IsOnOk, SourceTransition, InputSpec, Sources, with_number, both, all_from, AreLoaded, IsReadAs, IsReadWithin, IsFirstFault, IsFirstFaultBy, IsUnread, IsExpectedBy, IsWorkFaultBy, IsWorkedBy, IsRunBy, IsExpectedOfBy}
 use Rattle.cadf_tool.specs.declared.fault.ToolFault.TheVariants.{Memory}
 use Rattle.cadf_tool.specs.Run.{IsAnswer}
 use Rattle.cadf_tool.proofs.LoadedLists.{none_failed, reads_first}
@@ -132,3 +132,31 @@ pub on_ok_more : {A M : Type 0} (P Q : A → Result M ToolFault → Type 0) (r :
     → ((a : A) → P a made → Q a made) → IsOnOk r Q made
 on_ok_more P Q (Ok a) made is more = more a is
 on_ok_more P Q (Err fault) made is more = is
+
+-- what a work allows, a work that allows more allows
+worked_at : {M : Type 0} {allowed more : Result M ToolFault → Type 0} → ((r : Result M ToolFault) → allowed r → more r) → (fault : ToolFault) (s : FaultStage)
+    → IsWorkFaultBy allowed fault s → IsWorkFaultBy more fault s
+worked_at is fault Working h = is (Err fault) h
+worked_at is fault _ h = h
+
+pub worked_more : {M : Type 0} {allowed more : Result M ToolFault → Type 0} → ((r : Result M ToolFault) → allowed r → more r) → (r : Result M ToolFault)
+    → IsWorkedBy allowed r → IsWorkedBy more r
+worked_more is (Ok made) h = is (Ok made) h
+worked_more is (Err fault) h = worked_at is fault (fault_stage fault) h
+
+pub run_more : {A M W T : Type 0} {sources : Sources A} {work more : A → Result M ToolFault → Type 0} {tell : M → Text} {sink : Sink W} {old new : W}
+    {result : Result T ToolFault} → ((a : A) (r : Result M ToolFault) → work a r → more a r) → IsRunBy sources work tell sink old new result
+    → IsRunBy sources more tell sink old new result
+run_more {M = M} {sources = sources} {work = work} {more = more} is run = record {
+  expected = run.expected;
+  first = record { is = by run.expected run.first.is; bounded = run.first.bounded };
+  answer = run.answer;
+}
+  where
+    at : (fault : ToolFault) (s : FaultStage) → IsFirstFaultBy sources work fault s → IsFirstFaultBy sources more fault s
+    at fault Working (a, are, h) = (a, are, is a (Err fault) h)
+    at fault _ h = h
+
+    by : (r : Result M ToolFault) → IsExpectedOfBy sources work r → IsExpectedOfBy sources more r
+    by (Ok made) (a, are, h) = (a, are, is a (Ok made) h)
+    by (Err fault) h = at fault (fault_stage fault) h

@@ -1,5 +1,5 @@
 -- The results of `sketch` and `missing-by-sketch` for inputs.
-use Rattle.cadf_tool.proofs.Common.{common_steps, arith, ◌≡◌, ℕ, List, Option, None, Some, IfSome, unwrap_or, Result, Ok, Err, true, refl, sym, ap, ◌∙◌, subst, Text, Contents, InventoryModel, ReplicaModel, IsInventory, inventory_digest, DoNotCollide, LayoutModel, are_cells, default_cells, layout_with, SketchModel, sketch_of, own_salt, asked, asked_is, same_inventory, sketch-file-tells, IsAnswer, IsReplica, Some-same, Loaded, Replica, ToolFault, IsSketchReadOf, inventory_model_of, join_of, under_log, sketch_of_result, sketch_model_of, IsAnswerOfResult}
+use Rattle.cadf_tool.proofs.Common.{common_steps, arith, ◌≡◌, ℕ, List, Option, None, Some, IfSome, unwrap_or, Result, Ok, Err, true, refl, sym, ap, ◌∙◌, subst, Text, Contents, InventoryModel, ReplicaModel, IsInventory, inventory_digest, DoNotCollide, LayoutModel, are_cells, default_cells, layout_with, SketchModel, sketch_of, own_salt, asked, asked_is, same_inventory, sketch-file-tells, IsAnswer, IsReplica, Some-same, Loaded, Replica, ToolFault, IsSketchReadOf, inventory_model_of, join_of, under_log, sketch_of_result, sketch_model_of, IsAnswerTo, IsOnOk}
 use Rattle.cadf_tool.proofs.InventoryParts.{Notes, notes, notes_inventory, IsPartBy}
 use Rattle.cadf_tool.proofs.Unions.{ok_of}
 
@@ -60,7 +60,7 @@ module _ (held : ReplicaModel) (sketch : SketchModel) (part : ReplicaModel) (ans
       (same_inventory answer.theirs sketched answer.inventory inventory share (answer.digest ∙ is)) part_by_answer
 
 -- the result of an engine, with the replica that was read
-pub answer_of : (number : ℕ) (sketch : SketchModel) (read : Result ReplicaModel ToolFault) (part : ReplicaModel) → IsAnswerOfResult number sketch read (Ok part)
+pub answer_of : (number : ℕ) (sketch : SketchModel) (read : Result ReplicaModel ToolFault) (part : ReplicaModel) → IsOnOk read (IsAnswerTo number sketch) (Ok part)
     → (held : ReplicaModel) × (read ≡ Ok held) × IsAnswer held sketch part
 answer_of number sketch (Ok held) part k = (held, refl, k)
 answer_of number sketch (Err fault) part k = absurd (cc)

@@ -1,9 +1,9 @@
 -- Deltas between unions of inputs, and of one input each.
-use Rattle.cadf_tool.proofs.Common.{common_steps, ◌≡◌, ◌+◌, ℕ, Bool, true, false, cond, List, [], ◌∷◌, length, Option, None, Some, Result, Ok, Err, refl, sym, ap, ◌∙◌, subst, arith, option_or, Text, Contents, texts_total, texts_same, atom_digest, missing, missing_by, InventoryModel, ReplicaModel, SketchModel, Loaded, Replica, ToolFault, NoLog, OtherLog, JoinState, Unnamed, Other, FaultStage, Working, fault_stage, first_named, is_other, union_of, unless_other, join_in, join_from, join_of, on_ok, IsJoinState, log_joined, IsOnOk, under_one_log_at, missing_of, delta_between, if_named, part_of_unions, missing_by_at, part_by, part_by_union, IsWorkFaultBy, IsWorked, IsWorkedBy, IsAnswerOfResult, IsAnswerTo, IsPartOfUnionBySketch, log_named, atoms_loaded, under_log}
+use Rattle.cadf_tool.proofs.Common.{common_steps, ◌≡◌, ◌+◌, ℕ, Bool, true, false, cond, List, [], ◌∷◌, length, Option, None, Some, Result, Ok, Err, refl, sym, ap, ◌∙◌, subst, arith, option_or, Text, Contents, texts_total, texts_same, atom_digest, missing, missing_by, InventoryModel, ReplicaModel, Loaded, Replica, ToolFault, NoLog, OtherLog, JoinState, Unnamed, Other, FaultStage, Working, fault_stage, first_named, is_other, union_of, unless_other, join_in, join_from, join_of, on_ok, IsJoinState, log_joined, IsOnOk, under_one_log_at, missing_of, delta_between, if_named, part_of_unions, missing_by_at, part_by, part_by_union, IsWorkFaultBy, IsWorked, IsWorkedBy, IsMissingBy, IsPartAgainst, log_named, atoms_loaded, under_log}
 use Rattle.std.specs.Option.{is_some}
 use Rattle.cadf_tool.specs.declared.join_state.JoinState.TheVariants.{Joined}
 use Rattle.cadf_join.specs.laws.Sets as sets
-use Rattle.cadf_tool.proofs.Unions.{on_value, on_fault, join_one}
+use Rattle.cadf_tool.proofs.Unions.{on_fault, join_one}
 use Rattle.cadf_tool.proofs.UnitingLemmas.{not_other}
 
 -- ---- a delta between unions, by the states of their joins
@@ -58,28 +58,29 @@ module _ (froms tos : List Loaded) (from : JoinState) (joined : IsJoinState 1 No
       subst (IsWorked (part_of_unions (froms, tos))) (sym (made refl)) (to_refused h f fault (sym e) t)
   parted (Ok h) (Ok k) result true f t e made none = to_united h f k result (sym e) t (made refl)
 
--- ---- a delta against an inventory
+-- ---- a delta against what was read last
 
-pub by_inventory : (froms : List Loaded) (number : ℕ) (noted : InventoryModel) → number ≡ length froms + 1 → (h result : Result ReplicaModel ToolFault)
-    → IsWorked (join_of None froms) h → IsOnOk h (λ k. IsWorked (missing_by_at number (Replica k) noted)) result → IsWorked (part_by_union (froms, noted)) result
-by_inventory froms number noted is (Ok h) result e w =
-    on_value (λ k. missing_by_at (length froms + 1) (Replica k) noted) (join_of None froms) h result e
-    (subst (λ n. IsWorked (missing_by_at n (Replica h) noted) result) is w)
-by_inventory froms number noted is (Err fault) result e w =
-    subst (IsWorked (part_by_union (froms, noted))) (sym w) (on_fault (λ k. missing_by_at (length froms + 1) (Replica k) noted) (join_of None froms) fault e)
-
--- ---- a delta against a sketch
-
-module _ (froms : List Loaded) (number : ℕ) (sketch : SketchModel) (is : number ≡ length froms + 1) where
-  pub by_sketch : (h result : Result ReplicaModel ToolFault) → IsWorked (join_of None froms) h → IsOnOk h (λ k. IsWorkedBy (IsAnswerTo number sketch k)) result
-      → IsWorkedBy (IsPartOfUnionBySketch (froms, sketch)) result
-  by_sketch (Ok h) result e w = subst (λ n. IsWorkedBy (IsAnswerOfResult n sketch (join_of None froms)) result) is
-      (subst (λ r. IsWorkedBy (IsAnswerOfResult number sketch r) result) (sym e) w)
-  by_sketch (Err fault) result e w = subst (IsWorkedBy (IsPartOfUnionBySketch (froms, sketch))) (sym w) (at (fault_stage fault) e)
+module _ {T : Type 0} (allows : ℕ → T → ReplicaModel → Result ReplicaModel ToolFault → Type 0) (froms : List Loaded) (number : ℕ) (last : T)
+    (is : number ≡ length froms + 1) where
+  pub by_last : (h result : Result ReplicaModel ToolFault) → IsWorked (join_of None froms) h → IsOnOk h (λ k. IsWorkedBy (allows number last k)) result
+      → IsWorkedBy (IsPartAgainst allows (froms, last)) result
+  by_last (Ok h) result e w = subst (λ n. IsWorkedBy (IsOnOk (join_of None froms) (allows n last)) result) is
+      (subst (λ r. IsWorkedBy (IsOnOk r (allows number last)) result) (sym e) w)
+  by_last (Err fault) result e w = subst (IsWorkedBy (IsPartAgainst allows (froms, last))) (sym w) (at (fault_stage fault) e)
     where
-      at : (s : FaultStage) → IsWorkFaultBy (λ r. join_of None froms ≡ r) fault s → IsWorkFaultBy (IsPartOfUnionBySketch (froms, sketch)) fault s
-      at Working h = subst (λ r. IsAnswerOfResult (length froms + 1) sketch r (Err fault)) (sym h) refl
+      at : (s : FaultStage) → IsWorkFaultBy (λ r. join_of None froms ≡ r) fault s → IsWorkFaultBy (IsPartAgainst allows (froms, last)) fault s
+      at Working h = subst (λ r. IsOnOk r (allows (length froms + 1) last) (Err fault)) (sym h) refl
       at _ h = h
+
+-- for an inventory one result is allowed
+pub by_inventory : (pair : List Loaded × InventoryModel) (answer : Result ReplicaModel ToolFault) → IsPartAgainst IsMissingBy pair answer
+    → part_by_union pair ≡ answer
+by_inventory pair answer h = by (join_of None pair.0) h
+  where
+    by : (r : Result ReplicaModel ToolFault) → IsOnOk r (IsMissingBy (length pair.0 + 1) pair.1) answer
+        → on_ok r (λ h. missing_by_at (length pair.0 + 1) (Replica h) pair.1) ≡ answer
+    by (Ok h) is = is
+    by (Err fault) is = sym is
 
 -- ---- one input each
 

@@ -2,7 +2,7 @@
 --     AreAsked cells salt                 a sketch can have this number of cells and this salt, as far as they are given
 --     sketch_model_of cells salt loaded   the sketch of an input's inventory, or why there is none
 --     IsPartOfUnionBySketch both answer   a result for a list of inputs and a sketch; a relation, since it leaves open which digests peeling finds
-use Rattle.std.specs.Prelude.{◌≡◌, ◌<◌, ◌+◌, ◌^◌, ℕ, true, List, length, Option, None, IfSome, unwrap_or, Result, Ok, Err}
+use Rattle.std.specs.Prelude.{◌≡◌, ◌<◌, ◌^◌, ℕ, true, List, Option, IfSome, unwrap_or, Result, Ok, Err}
 use Rattle.cadf_set.specs.Inventory.{InventoryModel, inventory_of}
 use Rattle.cadf_set.specs.Replica.{ReplicaModel}
 use Rattle.cadf_sketch.specs.Answers.{IsAnswer}
@@ -14,8 +14,7 @@ use Rattle.cadf_sketch.specs.declared.reading.ReadFault.TheVariants as read
 use Rattle.cadf_tool.specs.declared.input.Loaded.{Loaded}
 use Rattle.cadf_tool.specs.declared.fault.ToolFault.{ToolFault}
 use Rattle.cadf_tool.specs.declared.fault.ToolFault.TheVariants.{OtherLog, TooFewCells, Memory}
-use Rattle.cadf_tool.specs.Join.{join_of}
-use Rattle.cadf_tool.specs.MissingBy.{inventory_model_of}
+use Rattle.cadf_tool.specs.MissingBy.{inventory_model_of, IsPartAgainst}
 
 pub record AreAsked (cells salt : Option ℕ) : Type 0 where
   pub number : IfSome cells (λ n. are_cells n ≡ true)
@@ -40,10 +39,6 @@ abbrev pub IsAnswerTo : ℕ → SketchModel → ReplicaModel → Result ReplicaM
 IsAnswerTo number sketch held (Ok part) = IsAnswer held sketch part
 IsAnswerTo number sketch held (Err fault) = (f : ReadFault) × (fault ≡ of_read number f) × IsReadFault (inventory_of held) sketch f
 
-abbrev pub IsAnswerOfResult : ℕ → SketchModel → Result ReplicaModel ToolFault → Result ReplicaModel ToolFault → Type 0
-IsAnswerOfResult number sketch (Ok held) answer = IsAnswerTo number sketch held answer
-IsAnswerOfResult number sketch (Err fault) answer = answer ≡ Err fault
-
--- THE DELTA AGAINST A SKETCH: the one against an inventory that has the sketch's digest. The sketch is numbered after the inputs
+-- THE DELTA AGAINST A SKETCH: the one against an inventory that has the sketch's digest
 abbrev pub IsPartOfUnionBySketch : List Loaded × SketchModel → Result ReplicaModel ToolFault → Type 0
-IsPartOfUnionBySketch both answer = IsAnswerOfResult (length both.0 + 1) both.1 (join_of None both.0) answer
+IsPartOfUnionBySketch both answer = IsPartAgainst IsAnswerTo both answer

@@ -15,7 +15,6 @@ mod join_state;
 pub mod laws;
 mod missing;
 mod missing_by;
-mod missing_by_sketch;
 mod prove;
 mod rehearse;
 mod request;

@@ -9,7 +9,6 @@ use crate::inventory::InventoryEngine;
 use crate::join::write_join;
 use crate::missing::write_missing;
 use crate::missing_by::write_missing_by;
-use crate::missing_by_sketch::write_missing_by_sketch;
 use crate::prove::write_proof;
 use crate::rehearse::write_rehearsal;
 use crate::rule::RuleEngine;
@@ -20,7 +19,8 @@ use crate::split::write_split_file;
 use crate::verify::write_verdict;
 use cadf_event::Name;
 use cadf_json::{Sink, Source};
-use cadf_sketch::{Cells, Salt};
+use cadf_set::Inventory;
+use cadf_sketch::{Cells, Salt, Sketch};
 use cadf_split::Unit;
 use std::alloc::Global;
 
@@ -112,13 +112,13 @@ pub fn run<R: Source, W: Sink>(
         Request::Join { log } => write_join(alloc, log, sources, output),
         Request::Split { unit, log } => write_split_file(alloc, *unit, log, sources, output),
         Request::Missing { from } => write_missing(alloc, *from, sources, output),
-        Request::MissingBy => write_missing_by(alloc, sources, output),
+        Request::MissingBy => write_missing_by::<Inventory, R, W>(alloc, sources, output),
         Request::Inventory => run_union(alloc, &InventoryEngine, sources, output),
         Request::Sketch { cells, salt } => {
             let (cells, salt) = (*cells, *salt);
             run_union(alloc, &SketchEngine { cells, salt }, sources, output)
         }
-        Request::MissingBySketch => write_missing_by_sketch(alloc, sources, output),
+        Request::MissingBySketch => write_missing_by::<Sketch, R, W>(alloc, sources, output),
         Request::Seal => run_union(alloc, &SealEngine, sources, output),
         Request::Prove => write_proof(alloc, sources, output),
         Request::Verify { absent } => write_verdict(alloc, *absent, sources, output),

@@ -1,7 +1,7 @@
 //! The engine of `verify`: what a proof says, under a seal, of the facts of an input.
 ghost use Rattle.std.specs.Prelude.{◌≡◌, length, map, Err};
 ghost use Rattle.cadf_tool.specs.Inputs.{source_state};
-ghost use Rattle.cadf_tool.specs.JoinState.{IsOnOk};
+ghost use Rattle.cadf_tool.specs.Join.{IsOnOk};
 ghost use Rattle.cadf_tool.specs.Request.{seal_facts_proof};
 ghost use Rattle.cadf_tool.specs.Run.{IsWorked, IsAnswer, IsRun};
 ghost use Rattle.cadf_tool.specs.Verify.{verdict_lines, verdict_of};

@@ -1,17 +1,20 @@
+use Rattle.cadf_tool.proofs.Runs.{run_more}
 use Rattle.cadf_tool.proofs.SourceParts.{as_asked}
+use Rattle.cadf_tool.proofs.UnionDeltas.{by_inventory}
 use Rattle.cadf_tool.proofs.request.run.Goals as goal
 
 pub returns-in-Missing-clause-run : goal.returns-in-Missing-clause-run
 returns-in-Missing-clause-run g c = as_asked g.R.Source _ _ g.W.Sink _ _ _ c.in-Missing.is c.write_missing.ensures
 
 pub returns-in-MissingBy-clause-run : goal.returns-in-MissingBy-clause-run
-returns-in-MissingBy-clause-run g c = as_asked g.R.Source _ _ g.W.Sink _ _ _ c.in-MissingBy.is c.write_missing_by.ensures
+returns-in-MissingBy-clause-run g c =
+    as_asked g.R.Source _ _ g.W.Sink _ _ _ c.in-MissingBy.is (run_more by_inventory c.write_missing_by.ensures)
 
 pub returns-in-Sketch-clause-run : goal.returns-in-Sketch-clause-run
 returns-in-Sketch-clause-run g c = as_asked g.R.Source _ _ g.W.Sink _ _ _ c.in-Sketch.is c.run_union-in-Sketch.ensures.run
 
 pub returns-in-MissingBySketch-clause-run : goal.returns-in-MissingBySketch-clause-run
-returns-in-MissingBySketch-clause-run g c = as_asked g.R.Source _ _ g.W.Sink _ _ _ c.in-MissingBySketch.is c.write_missing_by_sketch.ensures
+returns-in-MissingBySketch-clause-run g c = as_asked g.R.Source _ _ g.W.Sink _ _ _ c.in-MissingBySketch.is c.write_missing_by-in-MissingBySketch.ensures
 
 pub returns-in-Prove-clause-run : goal.returns-in-Prove-clause-run
 returns-in-Prove-clause-run g c = as_asked g.R.Source _ _ g.W.Sink _ _ _ c.in-Prove.is c.write_proof.ensures
