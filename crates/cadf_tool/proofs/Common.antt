@@ -101,7 +101,7 @@ pub use Rattle.cadf_tool.specs.Rehearse.{IsScriptJudged, bytes_spec, final_sites
 pub use Rattle.cadf_tool.specs.Request.{IsRequestRun, and_last, and_one, first_state, in_two, one_and_others, seal_facts_proof, task}
 pub use Rattle.cadf_tool.specs.Requested.{AreAccepted, AreOutside, IsAnswered}
 pub use Rattle.cadf_tool.specs.Rule.{ruled_in, ruled_of, ruling_at, ruling_for, ruling_on, value_at, with_ruling}
-pub use Rattle.cadf_tool.specs.Run.{AreLoaded, InputSpec, IsExpected, IsExpectedBy, IsExpectedOfBy, IsFirstFault, IsFirstFaultBy, IsReadAs, IsReadWithin, IsRefusedAt, IsRefusedFirst, IsRun, IsRunBy, IsToldBy, IsUnread, IsValueOf, IsWorkFaultBy, IsWorked, IsWorkedBy, SourceTransition, Sources, all, all_from, both, input_spec, inputs_from, one, transition_of, with_number}
+pub use Rattle.cadf_tool.specs.Run.{AreLoaded, InputSpec, IsExpected, IsExpectedBy, IsExpectedOfBy, IsFirstFault, IsFirstFaultBy, IsReadAs, IsReadWithin, IsRefusedAt, IsRefusedFirst, IsRun, IsRunBy, IsToldBy, IsUnread, IsValueOf, IsWorkFaultBy, IsWorked, IsWorkedBy, SourceTransition, Sources, all, all_from, both, input_spec, inputs_from, one, transition_of, two, with_number}
 pub use Rattle.cadf_tool.specs.Seal.{seal_model_of}
 pub use Rattle.cadf_tool.specs.Shown.{HaveSameOutput, checked_text, shown_text}
 pub use Rattle.cadf_tool.specs.Sites.{is_same, lines_from}
@@ -118,7 +118,7 @@ pub use Rattle.cadf_tool.specs.declared.input.Loaded.TheVariants.{Document, Docu
 pub use Rattle.cadf_tool.specs.declared.join_state.JoinState.{JoinState}
 pub use Rattle.cadf_tool.specs.declared.join_state.JoinState.TheVariants.{Other, Unnamed}
 pub use Rattle.cadf_tool.specs.declared.request.Request.{Request}
-pub use Rattle.cadf_tool.specs.laws.Engines.{IsOfReplica}
+pub use Rattle.cadf_tool.specs.laws.Engines.{IsOfReplica, of_inventory, of_replica, of_ruled}
 pub use Rattle.sha2.specs.Sha256.{sha256}
 pub use Rattle.std.proofs.Common.{Bool, Contains, Err, Global, IfErr, IfOk, IfSome, IsErrAnd, List, MatchResult, None, Ok, OnOk, Option, Result, Some, String, [], ap, append-nil, arith, codes, cond, drop, encode_utf8, false, get_or, inl, inr, length, length-append, length-take, map, min, nat_lt, refl, rules, set, slice_get, string_bytes, subst, suc, sym, take, true, true≢false, unwrap_or, zero, ℕ, ◌++◌, ◌+◌, ◌-◌, ◌<◌, ◌↔◌, ◌∙◌, ◌∷◌, ◌≡◌, ◌≢◌, ◌≤◌, ◌⊎◌}
 pub use Rattle.std.proofs.KnownBytes.{Consumes-trans, Consumes-whole}

@@ -20,6 +20,7 @@ pub mod LoadedLists
 pub mod MadeByRuns
 pub mod ModelReading
 pub mod OfTheBytes
+pub mod OneInput
 pub mod OneText
 pub mod Rehearsals
 pub mod RuledFiles
