@@ -119,8 +119,9 @@ class File:
 
 
 def written(words, module, names):
-    """Returns the line that takes names from a module."""
-    return "%s %s.{%s}" % (words, module, ", ".join(map(str, names)))
+    """Returns the line that takes names from a module, as `rt fmt` lays it out: `{!` would be one word."""
+    listed = ", ".join(map(str, names))
+    return "%s %s.{%s%s}" % (words, module, " " * listed.startswith("!"), listed)
 
 
 def chosen(crate, files):

@@ -10,16 +10,17 @@ CRATE = {
     "First.antt": "-- The first.\nuse Rattle.left.specs.Sets.{union, both as pair}\nuse Rattle.left.specs.Sets as set\n"
                   "use Rattle.left.specs.Texts.{text}\nuse Rattle.it.proofs.Second.{lemma}\n\nunfolding union\n",
     "Second.antt": "use Rattle.left.specs.Sets.{union}\nuse Rattle.left.specs.Words.{text}\n\nlemma : text\n",
-    "third/Answers.antt": "use Rattle.left.specs.Sets.{text}\n",
+    "third/Answers.antt": "use Rattle.left.specs.Sets.{text}\nuse Rattle.left.specs.Words.{!}\n",
 }
 WRITTEN = {
     "Lib.antt": "pub mod Common\npub mod First\n",
     "Common.antt": "-- What the proofs of this crate take from outside. Written by tests/proofs/imports.py.\n"
-                   "pub use Rattle.left.specs.Sets.{both as pair, text}\nunfoldable pub use Rattle.left.specs.Sets.{union}\n",
+                   "pub use Rattle.left.specs.Sets.{both as pair, text}\nunfoldable pub use Rattle.left.specs.Sets.{union}\n"
+                   "pub use Rattle.left.specs.Words.{ !}\n",
     "First.antt": "-- The first.\nuse Rattle.it.proofs.Common.{union, pair, text}\nuse Rattle.left.specs.Sets as set\n"
                   "use Rattle.it.proofs.Second.{lemma}\n\nunfolding union\n",
     "Second.antt": "use Rattle.it.proofs.Common.{union}\nuse Rattle.left.specs.Words.{text}\n\nlemma : text\n",
-    "third/Answers.antt": "use Rattle.it.proofs.Common.{text}\n",
+    "third/Answers.antt": "use Rattle.it.proofs.Common.{text, !}\n",
 }
 PASSED_ON = {"Sets.antt": "pub use Rattle.left.specs.Texts.{text}\n\npub union : text\n", "Texts.antt": "pub text : text\n"}
 
