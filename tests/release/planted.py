@@ -114,7 +114,7 @@ ROWS = [
     Row("which: the last status", "tools/cadf-which", "            note(fault)\n            worst = max(worst, fault.status)", "            note(fault)\n            worst = fault.status", COMPARED + "test_worst"),
     Row("folders: keys of another moment", "share/cadf/cadf_keys.py", "if all(files == read[part].files for part, (files, _, _) in found.items()):", "if True:",
         "tests/tools/test_tools_of_folders.py -k test_lists_amid_takes"),
-    Row("conflicts: no metrics", "tools/cadf-conflicts", "len(atoms) > 1 or key in wanted:", "len(atoms) > 1 and key[0] != 'M' or key in wanted:", COMPARED + "test_every_kind"),
+    Row("conflicts: no metrics", "tools/cadf-conflicts", "len(atoms) > 1 or key in wanted or", "len(atoms) > 1 and key[0] != 'M' or key in wanted or", COMPARED + "test_every_kind"),
     # ---- Seals
     Row("seal: files unjudged", "share/cadf/cadf_seals.py", "                check_window(index, (part, digest), file)\n", "", SEALS + "test_a_fact_in_another"),
     Row("seal: a file of each window", "share/cadf/cadf_seals.py", "sealed(list(files.values()))", "sealed(list(files.values())[:1])", SEALS + "test_seal_of_a_folder"),
