@@ -240,6 +240,9 @@ def failed(*keys):
     return {(*atom[:2], atom[2].replace('"outcome":"success"', '"outcome":"failure"'), *atom[3:]) for atom in facts(*keys) if atom[0] == "E"}
 
 
+UNSEEN = "ruled keys at which nobody here has looked: `cadf-conflicts --values SITE`, and then `cadf-conflicts --seen SITE`"
+
+
 def ruling(key):
     """The ruling of the event of this number as `facts` has it."""
     [body] = [atom[2] for atom in facts(key) if atom[:1] == ("E",) and len(atom) == 3]
@@ -821,10 +824,10 @@ class Folders(Sites):
         self.takes(name, "--settle", [])
         return self.files(name)
 
-    def equal(self, *words):
-        """What the tool says, in JSON, of an exchange that has to succeed."""
+    def equal(self, *words, tells=""):
+        """What the tool says, in JSON, of an exchange that has to succeed, and to tell no more than this."""
         answer = self.sync("--json", *words)
-        assert (answer.status, answer.error) == (0, b""), answer
+        assert (answer.status, answer.error.decode()) == (0, tells), answer
         return json.loads(answer.output)
 
     def counted(self, *words):
@@ -1173,24 +1176,31 @@ def test_metrics_of_folders(folders):
     folders.put("here/", facts(1, 2, 3) | failed(1))
     folders.put("there/", facts(2, 3) | failed(2, 3) | ruling(3))
     largest = len(file_of("g", facts(2) - facts())) + len(file_of("g", failed(2)))  # two files of one window
+    tells = "cadf-sync: here/: 1 %s\n" % UNSEEN
     for there in (4, 0):
-        folders.equal("--metrics=m.prom", "here/", "there/")
+        folders.equal("--metrics=m.prom", "here/", "there/", tells=tells)
         assert numbers(folders.path / "m.prom", '{tool="cadf-sync",site="here/",peer="there/"}') == {
-            "facts_taken_total": 5, "facts_lacked_by_peer": there, "open_conflicts": 2, "largest_window_bytes": largest}
+            "facts_taken_total": 5, "facts_lacked_by_peer": there, "open_conflicts": 2, "unseen_rulings": 1, "largest_window_bytes": largest}
     folders.put("more.cadf", facts(4))
     folders.takes("there/", ["more.cadf"])
-    folders.equal("--metrics=m.prom", "here/", "there/")
+    folders.equal("--metrics=m.prom", "here/", "there/", tells=tells)
     text = (folders.path / "m.prom").read_text()
     assert "# TYPE cadf_facts_taken_total counter\n" in text and "# TYPE cadf_open_conflicts gauge\n" in text
     assert numbers(folders.path / "m.prom", '{tool="cadf-sync",site="here/",peer="there/"}')["facts_taken_total"] == 5 + len(facts(4) - facts())
 
 
-@pytest.mark.parametrize("more, status, count", [(set(), 0, 0), (failed(1), 5, 1), (failed(1) | ruling(1), 0, 0)], ids=["none", "open", "settled"])
-def test_conflicts_of_a_folder(folders, more, status, count):
+@pytest.mark.parametrize("more, status, told", [
+    (set(), 0, "0 open conflicts"), (failed(1), 5, "1 open conflicts"), (failed(1) | ruling(1), 5, "0 open conflicts; 1 " + UNSEEN)], ids=["none", "open", "ruled unseen"])
+def test_conflicts_of_a_folder(folders, more, status, told):
+    """What is open, and ruled keys at which nobody here has looked, which no longer are once somebody has."""
     folders.put("here/", facts(1, 2) | more)
     folders.put("there/", facts(1, 2))
     answer = folders.sync("--conflicts", "here/", "there/")
-    assert answer.status == status and answer.output.endswith(b"; %d open conflicts\n" % count), answer
+    assert (answer.status, answer.output.decode().endswith("; %s\n" % told)) == (status, True), answer
+    if UNSEEN in told:
+        assert folders.runs("cadf-conflicts", "--seen", "here/").status == 0
+        answer = folders.sync("--conflicts", "here/", "there/")
+        assert (answer.status, answer.output.endswith(b" received; 0 open conflicts\n")) == (0, True), answer
 
 
 def test_metrics_of_more_windows_than_files_may_be_open(folders):
@@ -1210,7 +1220,7 @@ def test_metrics_of_a_spool(folders):
     words = ["--by=day", "--log=g", "--unchanged=0", "--metrics=m.prom", "here/", "spool"]
     assert folders.runs("cadf-spool", *words).status == 1
     assert numbers(folders.path / "m.prom", '{tool="cadf-spool",site="here/"}') == {
-        "facts_taken_total": 7, "open_conflicts": 1, "set_aside_oldest_timestamp_seconds": int((folders.path / "spool" / "set-aside" / "bad.cadf").stat().st_mtime), 'files{,became="taken"}': 1, 'files{,became="set aside"}': 1, 'files{,became="waiting"}': 0,
+        "facts_taken_total": 7, "open_conflicts": 1, "unseen_rulings": 0, "set_aside_oldest_timestamp_seconds": int((folders.path / "spool" / "set-aside" / "bad.cadf").stat().st_mtime), 'files{,became="taken"}': 1, 'files{,became="set aside"}': 1, 'files{,became="waiting"}': 0,
         "set_aside_files": 1, "set_aside_bytes": len(file_of("g", facts(3))[:-9]) + len((folders.path / "spool" / "set-aside" / "bad.cadf.reason").read_bytes()),
         "largest_window_bytes": len(file_of("g", facts(2) - facts() | failed(2)))}
 
