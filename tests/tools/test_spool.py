@@ -25,11 +25,11 @@ from tests.tools import others
 from tests.tools.copies import copied, is_caught
 from tests.tools.faulty import calls_of
 from tests.tools.odd_logs import EVENT
-from tests.tools.programs import loaded, tool
+from tests.tools.programs import is_read, loaded, tool, writer_to
 
 CALLS = "os.open os.mkdir os.rename os.fsync os.unlink os.rmdir fcntl.flock builtins.open subprocess.Popen"
 DAMAGED = "the file is damaged: fetch it again, or restore it as the guide says under `A damaged site`"
-TOO_LARGE = "printf 'CADF-REPLICA 2\\n'; truncate -s 1073741824 /dev/stdout; printf 'Z %064d\\n' 0 >>/dev/stdout; exit 0"  # a replica file that no command reads
+TOO_LARGE = "printf 'CADF-REPLICA 2\\n'; printf 'Z %064d\\n' 0 | dd bs=1M seek=1024 status=none; exit 0"  # a replica file that no command reads
 
 
 def event(key, **members):
@@ -521,15 +521,13 @@ def test_full_spool(spools):
 def test_stopped(spools):
     """Asked to end while `cadf` joins, it ends what it has started, and leaves nothing of it; the next run takes the files."""
     folder = spools.site(**{"a.json": document("e1")})
-    odd = spools.command(folder, '[ "$1" = join ] && { cd %s; echo $$ >part; mv part joins; exec sleep 30; }' % shlex.quote(folder))
-    child = spools.started(folder, "--log", "g", cadf=odd, stderr=subprocess.PIPE)
-    while not os.path.exists(os.path.join(folder, "joins")) and child.poll() is None:
-        time.sleep(0.01)
+    fifo = os.path.join(folder, "fifo")
+    os.mkfifo(fifo)
+    child = spools.started(folder, "--log", "g", cadf=spools.command(folder, '[ "$1" = join ] && exec cat <%s' % shlex.quote(fifo)), stderr=subprocess.PIPE)
+    writer = writer_to(fifo, child)
     child.terminate()
-    said, joins = child.communicate()[1], content(os.path.join(folder, "joins")).decode().strip()
-    is_left = os.path.exists("/proc/" + joins)
-    if is_left:
-        os.kill(int(joins), signal.SIGKILL)
+    said, is_left = child.communicate()[1], is_read(writer)
+    os.close(writer)
     assert (child.returncode, said, is_left) == (128 + signal.SIGTERM, b"cadf-spool: stopped by SIGTERM\n", False)
     assert not os.path.exists(os.path.join(folder, "s.cadf.new")) and os.listdir(os.path.join(folder, "spool/taking")) == ["a.json"]
     assert spools.takes(folder).status == 0
@@ -660,9 +658,8 @@ def test_times_of_a_sender(spools):
 def test_room_for_others(spools):
     """What was copied of a file for which there is no room takes none while the others are taken."""
     folder = spools.site(**{"a.json": document("e1"), "large.json": bytes(range(256)) * 2 ** 10})
-    odd = spools.command(folder, '[ "$1" = join ] && ls .work >%s' % shlex.quote(os.path.join(folder, "left")))
+    odd = spools.command(folder, '[ "$1" != join ] || { left=$(ls .work) && [ -z "$left" ]; } || exit 127')
     assert spools.takes(folder, cadf=odd, preexec_fn=lambda: resource.setrlimit(resource.RLIMIT_FSIZE, (2 ** 16, 2 ** 16))).status == 3
-    assert held(folder)["left"] == b""
     spools.leaves(folder, spools.joined(document("e1")), **names_in("taken", ["a.json"]), **names_in("taking", ["large.json"]))
 
 
@@ -695,12 +692,17 @@ def test_group_at_fault(spools, fault):
     names = ["%d.json" % number for number in range(16)]
     folder = spools.site(**{name: document("BOMB" if name == "7.json" else name) for name in names})
     names.remove("7.json")
-    script = 'echo "$1" >>%s/calls\n[ "$1" = join ] && for each; do grep -q BOMB "$each" 2>/dev/null && { %s; }; done' % (shlex.quote(folder), fault)
+    fifo = os.path.join(folder, "fifo")
+    os.mkfifo(fifo)
+    counting = os.open(fifo, os.O_RDWR | os.O_NONBLOCK)
+    os.write(counting, b"\n" * 100)  # a join may change no file, so each takes a line away
+    script = '[ "$1" = join ] && read line <%s && for each; do grep -sq BOMB "$each" && { %s; }; done' % (shlex.quote(fifo), fault)
     done = spools.takes(folder, cadf=spools.command(folder, script))
     assert (done.status, last_line(done)) == (1, counted(15, 1))
     spools.leaves(folder, spools.joined(document(*names)), **names_in("set-aside", ["7.json", "7.json.reason"]), **names_in("taken", names))
-    joins = held(folder)["calls"].split().count(b"join")
-    assert joins <= 13  # one, two for each halving, and one; a second for each of three takes into a site that is there
+    joins = 100 - len(os.read(counting, 100))
+    os.close(counting)
+    assert 0 < joins <= 13  # one, two for each halving, and one; a second for each of three takes into a site that is there
 
 
 # ---- What a sender can do who is another user

@@ -12,7 +12,7 @@ import pytest
 
 from tests import patience
 from tests.tools.odd_logs import EVENT
-from tests.tools.programs import tool
+from tests.tools.programs import tool, writer_to
 
 # A command that goes on once it may.
 SLOW = '#!/bin/sh\nwhile [ ! -e "$PLACE/go" ]; do sleep 0.05; done\nexec "$BUILT" "$@"\n'
@@ -109,24 +109,30 @@ def test_take_behind_a_link(cadf, tmp_path):
     assert (done.returncode, done.stderr.decode()) == (3, said) and not (tmp_path / "site.cadf").exists()
 
 
-# A command whose first call removes the lock, as one that looks stale, and has another caller take meanwhile.
-REMOVING = """#!/bin/sh
-mkdir "$PLACE/once" 2>"$PLACE/told" && rm "$LOCK" && CADF=$BUILT "$TAKE" "$SITE" "$OTHER"
-exec "$BUILT" "$@"
-"""
+# A command that waits as long as a FIFO is there and open. It may change no file, so it can do nothing else meanwhile.
+WAITING = '#!/bin/sh\n[ -p "$FIFO" ] && read told <"$FIFO"\nexec "$BUILT" "$@"\n'
 
 
 @pytest.mark.parametrize("name", ["site/", "site.cadf"])
 def test_take_whose_lock_is_removed(cadf, tmp_path, name):
-    """The caller that holds the removed lock takes nothing, so nothing is lost of what the other one takes. Made again, it completes."""
+    """A lock is removed, as one that looks stale, and another caller takes meanwhile.
+
+    The one that holds the removed lock takes nothing, so nothing is lost of what the other one takes. Made again, it completes.
+    """
     one, two, three = (document(tmp_path, key) for key in ("e1", "e2", "e3"))
     site, by = "%s/%s" % (tmp_path, name), ["--by", "day"] if name.endswith("/") else []
     words, environment = [tool("cadf-take"), site, two], {**os.environ, "CADF": cadf}
     subprocess.run([tool("cadf-take"), *by, site, one], env=environment, check=True)
-    removing = put(tmp_path, "removing", REMOVING, 0o755)
-    done = subprocess.run(words, stderr=subprocess.PIPE, env={**environment, "CADF": str(removing), "BUILT": cadf, "PLACE": str(tmp_path), "LOCK": site + ".lock",
-                                                              "TAKE": tool("cadf-take"), "SITE": site, "OTHER": str(three)})
-    assert done.returncode == 3 and done.stderr.startswith(b"cadf-take: %s: it was removed" % os.fsencode(site + ".lock")), done
+    waiting, fifo = put(tmp_path, "waiting", WAITING, 0o755), tmp_path / "fifo"
+    os.mkfifo(fifo)
+    with subprocess.Popen(words, stderr=subprocess.PIPE, env={**environment, "CADF": str(waiting), "BUILT": cadf, "FIFO": str(fifo)}) as child:
+        writer = writer_to(fifo, child)
+        os.remove(fifo)
+        os.remove(site + ".lock")
+        subprocess.run([tool("cadf-take"), site, three], env=environment, check=True)
+        os.close(writer)
+        said = child.stderr.read()
+    assert child.returncode == 3 and said.startswith(b"cadf-take: %s: it was removed" % os.fsencode(site + ".lock")), said
     agreed = [tool("cadf-agree"), site, put(tmp_path, "union", "")]
     for held in ((one, three), (one, two, three)):
         (tmp_path / "union").write_bytes(joined(cadf, *held))
