@@ -153,7 +153,7 @@ def test_what_a_stranger_sends_costs_its_bytes(tmp_path, cadf, tools, before, at
 
 @pytest.mark.xdist_group("costs")
 @pytest.mark.parametrize("attack, right, wrong", [
-    ("chains that share a large step", "return {key: each for key, each in found.items() if each[0] > most}", "return {}"),
+    ("chains that share a large step", "return {key: each for key, each in found.items() if each.size > most}", "return {}"),
     ("rulings of no key", "opened(windows.ruled(window))", "opened(windows.rulings)")])
 def test_tools_that_cost_more_are_caught(tmp_path, cadf, before, attack, right, wrong):
     wrongs = copied(str(tmp_path / "copy"), right, wrong, *TRIED[2:])
@@ -164,31 +164,55 @@ def test_tools_that_cost_more_are_caught(tmp_path, cadf, before, attack, right, 
 
 # ---- An event whose texts are long
 
-SAID = r'(?m)^cadf-[a-z]+: left out the event "long", whose texts have \d+ bytes: give more by --largest, or have `cadf show` write it$'
+SAID = r'(?m)^cadf-[a-z]+: left out %s, whose texts have \d+ bytes: give more by --largest, or have `cadf show` write it$'
+CHAINS = 200000 // 2 // 90  # of such an event of 200 KB, which would be 170 MB of text
+
+
+def left_out(found, what):
+    """Whether a call said once that just this was left out, with status 5."""
+    return found.status == 5 and len(re.findall(SAID % re.escape(what), found.error.decode())) == found.error.count(b"left out ") == 1
 
 
 @pytest.mark.parametrize("is_folder", [True, False])
 @pytest.mark.parametrize("tool", ["cadf-events", "cadf-report"])
-def test_an_event_whose_texts_are_long_is_left_out(tmp_path, cadf, tools, tool, is_folder):
-    """It is named, all others are there, the status is 5, and memory is that of the bytes: 200 KB of the event would be 170 MB of text."""
+def test_nobody_hides_an_event_by_chains(tmp_path, cadf, tools, tool, is_folder):
+    """Chains that a stranger adds to another's event are left out and counted, and its own members are shown, in memory of the bytes that there are."""
     place = Place(tmp_path, cadf, tools)
     place.put("sent.cadf", shared_step(200000))
     place.run("cadf-take", "site/", "sent.cadf")
     (tmp_path / "file.cadf").write_bytes(subprocess.run([cadf, "join", "honest.cadf", "sent.cadf"], cwd=tmp_path, stdout=subprocess.PIPE, check=True).stdout)
     limits = {"preexec_fn": lambda: resource.setrlimit(resource.RLIMIT_AS, (2 ** 29, 2 ** 29))}
     found = place.run(tool, "site/" if is_folder else "file.cadf", **limits)
-    assert found.status == 5 and len(re.findall(SAID, found.error.decode())) == 1, found
+    assert left_out(found, '%d chains, tags and attachments of the event "long"' % CHAINS), found
     if tool == "cadf-events":
-        assert len(found.output.splitlines()) == DAYS * EVENTS and b'"id":"long"' not in found.output
+        lines = [json.loads(line) for line in found.output.splitlines()]
+        own = dict(honest(1, 0), id="long", typeURI="http://schemas.dmtf.org/cloud/audit/1.0/event")
+        assert len(lines) == DAYS * EVENTS + 1 and [each for each in lines if each["id"] == "long"] == [own]
         none = place.run(tool, "--since=2024-03-05", "site/" if is_folder else "file.cadf", **limits)
         assert none.status == 0 and none.error == b""  # it is of no event of the range
     else:
-        assert b"Left out: 1 events whose texts are long." in found.output and b'"long"' not in found.output
+        assert b"Left out: chains, tags and attachments of 1 events whose texts are long." in found.output
+
+
+@pytest.mark.parametrize("is_folder", [True, False])
+def test_nobody_hides_an_event_by_a_long_body(tmp_path, cadf, tools, is_folder):
+    """Another body that is too long by itself is left out and counted, and the event is shown as one that it contradicts; of one such body the event is named alone."""
+    place = Place(tmp_path, cadf, tools)
+    long = {"requestPath": "/" + "p" * 10000}
+    place.put("sent.cadf", facts(dict(honest(1, 1), **long), dict(honest(2, 0), id="alone", **long)))
+    place.run("cadf-take", "site/", "sent.cadf")
+    (tmp_path / "file.cadf").write_bytes(subprocess.run([cadf, "join", "honest.cadf", "sent.cadf"], cwd=tmp_path, stdout=subprocess.PIPE, check=True).stdout)
+    found = place.run("cadf-events", "--largest=9000", "--contradicted=mark", "site/" if is_folder else "file.cadf")
+    lines = [json.loads(line) for line in found.output.splitlines()]
+    own = dict(honest(1, 1), typeURI="http://schemas.dmtf.org/cloud/audit/1.0/event")
+    assert len(lines) == DAYS * EVENTS and [each for each in lines if "contradicted" in each] == [{"contradicted": 2, "event": own}]
+    said = found.error.decode()
+    assert found.status == 5 and "left out the event \"alone\", whose" in said and "left out 1 of 2 bodies of the event \"e1.1\", whose" in said
 
 
 @pytest.mark.parametrize("kind", ["replica", "document", "several files"])
 def test_largest(tmp_path, cadf, tools, kind):
-    """Of each kind of file an event is left out just if its texts have more bytes, and facts that two files have count once."""
+    """Of each kind of file an event's tags are left out just if its texts have more bytes, and facts that two files have count once."""
     place = Place(tmp_path, cadf, tools)
     event = dict(honest(1, 0), id="long", tags=["t%05d" % number for number in range(3000)])
     (tmp_path / "long.json").write_text(json.dumps({"id": "g", "events": [event, honest(1, 1)]}))
@@ -206,12 +230,14 @@ def test_largest(tmp_path, cadf, tools, kind):
         names = ["long/"]
     for most, status in (size, 0), (size - 1, 5):
         found = place.run("cadf-events", "--largest=%d" % most, *names)
-        assert (found.status, len(found.output.splitlines())) == (status, 2 if status == 0 else 1), (found, most)
+        tags = [json.loads(line).get("tags") for line in found.output.splitlines()]
+        assert (found.status, tags) == (status, [event["tags"] if status == 0 else None, None]), (found, most)
+        assert status == 0 or left_out(found, '3000 chains, tags and attachments of the event "long"')
 
 
 def test_all_events_of_a_file_are_long(tmp_path, cadf, tools):
     """What is left is the file of the other facts."""
     place = Place(tmp_path, cadf, tools)
     place.put("long.cadf", shared_step(20000) | document({"id": "g", "events": [], "name": "x"})[1])
-    found = place.run("cadf-events", "--largest=20000", "long.cadf")
-    assert (found.status, found.output) == (5, b"")
+    found = place.run("cadf-events", "--largest=100", "long.cadf")
+    assert (found.status, found.output) == (5, b"") and left_out(found, 'the event "long"')
