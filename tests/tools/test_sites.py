@@ -252,6 +252,27 @@ def test_another_value_of_a_ruled_key(sites):
     assert status == 5 and '# E "a b": open, 3 values, 2 ruled\n' in output.decode()
 
 
+def test_list_for_programs(sites):
+    """Each key has a line of JSON, also one that is settled, with its values as they are and their digests."""
+    bodies = [json.dumps(dict(EVENT, targetId=target), sort_keys=True, separators=(",", ":"), ensure_ascii=False) for target in (LOW, HIGH)]
+    sites.cadf("ruled", "rule", "E", "a b", "2", "site")
+    for site, ruled in (("site", ()), ("ruled", [hashlib.sha256(bodies[0].encode()).hexdigest()])):  # the first body has `more`
+        status, output, said = sites.tool("conflicts", "--format", "jsonl", site)
+        assert (status, said) == (5, ["cadf-conflicts: open %d, settled %d" % (11 - len(ruled), len(ruled))])
+        found = {(each["letter"], each["key"]): each for each in map(json.loads, output.decode().splitlines())}
+        assert list(found) == [*(("E", key) for key in sorted(ODD_KEYS)), ("P", "name"), ("R", "r")]
+        assert [each["value"] for each in found["P", "name"]["values"]] == ["n", ["n"]]
+        assert [each["value"] for each in found["R", "r"]["values"]] == [{"id": "r", "v": 1}, {"id": "r", "v": True}]
+        assert [each["value"]["targetId"] for each in found["E", "e1"]["values"]] == ["t", LOW, HIGH]
+        for each in found["E", "a b"]["values"][1:]:
+            assert each["digest"] in [hashlib.sha256(body.encode()).hexdigest() for body in bodies]
+        assert [each["digest"] for key in found.values() for each in key["values"] if each["ruled"]] == list(ruled)
+        assert {key: each["state"] for key, each in found.items() if each["state"] != "open"} == {("E", "a b"): "settled" for _ in ruled}
+    for more in (["--values"], ["--seen"], ["--verify", "allowed"], ["--rule-utc"]):
+        assert sites.tool("conflicts", "--format", "jsonl", *more, "site")[0] == 2
+    assert sites.tool("conflicts", "--format", "jsonl", "site", "a")[0] == 2
+
+
 def test_ruling_of_a_value_that_is_elsewhere(sites):
     sites.cadf("ruled", "rule", "E", "a b", "1", "site")
     sites.cadf("alone", "missing", "ruled", "site")
