@@ -1,18 +1,19 @@
-"""Makes faults of the Python programs by machine, one at a time, and says which the tests see.
+"""Makes faults of the programs and the pages by machine, one at a time, and says which the tests see.
 
     python3 -m tests.mutation --cover [--jobs 2] [TEST..]
     python3 -m tests.mutation [--count 20] [--seed 1] [--area AREA].. [--jobs 2] [NAME..]
     python3 -m tests.mutation --changed [COMMIT] [--jobs 2]
     python3 -m tests.mutation --list [--area AREA].. [NAME..]
 
-The programs are those of tools/, share/cadf/, build/, install/, bindings/python/ and the second implementation; each of
-these is an AREA. tests/mutation/operators.py says what a mutant is. Without --changed a sample is tried: COUNT of each
-area, chosen by SEED; NAMEs choose the mutants whose names begin so. With --changed all of the lines that differ from
-COMMIT, HEAD~1 unless it is given. Nothing is tried in the tree: each job has a copy of it.
+The Python programs are those of tools/, share/cadf/, build/, install/, bindings/python/ and the second implementation; the
+other texts are the scripts of the report's page, the header for C, units, maintainer scripts and completions. AREAS has
+them, each with its name, and operators.py and texts.py beside this say what a mutant is. Without --changed a sample is tried:
+COUNT of each area, chosen by SEED; NAMEs choose the mutants whose names begin so. With --changed all of the lines that differ
+from COMMIT, HEAD~1 unless it is given. Nothing is tried in the tree: each job has a copy of it.
 
 With --cover all tests of pytest run once, or those that TESTs name, and which lines each of them runs is kept in
-.build/mutation, of each program as long as its text stays. A mutant is tried by the tests that run its line: those first
-that run few lines. It is
+.build/mutation, of each program as long as its text stays. A mutant of a Python program is tried by the tests that run its
+line: those first that run few lines; one of another text by the tests that its area names. It is
 
   killed     an assertion of a test fails, which passes without the mutant
   survived   all these tests pass
@@ -35,14 +36,28 @@ import subprocess
 import sys
 import tempfile
 import time
+from typing import Callable, NamedTuple
 
 from tests import TOP, patience, text_of, tracked
 from tests.machine import built
-from tests.mutation import operators
-from tests.release import planted_faults
+from tests.mutation import operators, texts, trees
 
-AREAS = {"tools": r"tools/cadf-[\w-]+", "share": r"share/cadf/\w+\.py", "build": r"build/[\w-]+(\.py)?", "install": r"install/\w+(\.py)?",
-         "bindings": r"bindings/python/.*\.py", "reference": r"tests/reference/\w+(\.py)?"}
+
+class Area(NamedTuple):
+    files: str
+    mutants: Callable = operators.mutants
+    tests: str = ""  # which try its mutants; if there are none, those that run the mutant's line
+
+
+AREAS = {
+    "tools": Area(r"tools/cadf-[\w-]+"), "share": Area(r"share/cadf/\w+\.py"), "build": Area(r"build/[\w-]+(\.py)?"),
+    "install": Area(r"install/\w+(\.py)?"), "bindings": Area(r"bindings/python/.*\.py"), "reference": Area(r"tests/reference/\w+(\.py)?"),
+    "page": Area(r"share/cadf/report/\w+\.js", texts.of_script, " tests/tools/test_report%s.py" * 6 % ("_meaning", "_page", "_part", "_evidence", "_questions", "")),
+    "header": Area(r"bindings/c/cadf\.h", texts.of_script, "tests/library/test_header.py"),
+    "units": Area(r"examples/(systemd|monitoring)/.*", texts.of_lines, "tests/package/test_units.py tests/package/test_monitoring.py"),
+    "scripts": Area(r"install/debian/cadf\.p\w+", texts.of_lines, "tests/package/test_maintainer_scripts.py"),
+    "completions": Area(r"share/(bash-completion|zsh)/.*", texts.of_lines, "tests/package/test_installed.py"),
+}
 KEPT = os.path.join(TOP, ".build", "mutation", "covered.json")
 SURVIVORS = "tests/mutation/survivors"
 MOST_TESTS = 40  # that try a mutant: those of a line that all tests run are too many
@@ -51,13 +66,14 @@ HERE = os.path.dirname(os.path.abspath(__file__))
 
 
 def programs():
-    """The Python programs, each with its area."""
-    found = {}
-    for area, pattern in AREAS.items():
-        for name in filter(re.compile(pattern).fullmatch, tracked()):
-            if planted_faults.is_python(name, text_of(name)):
-                found[name] = area
-    return found
+    """The programs and the other texts, each with its area."""
+    return {name: title for title, area in AREAS.items() for name in filter(re.compile(area.files).fullmatch, tracked())
+            if area.tests or name.endswith(".py") or text_of(name).startswith("#!/usr/bin/env python3\n")}
+
+
+def traced():
+    """The Python programs: of each line is known which tests run it."""
+    return {name: area for name, area in programs().items() if not AREAS[area].tests}
 
 
 def content(name):
@@ -66,8 +82,9 @@ def content(name):
         return file.read()
 
 
-def mutants_of(names):
-    return [mutant for name in names for mutant in operators.mutants(name, content(name))]
+def mutants_of(areas):
+    """The mutants of texts, given by their names with their areas."""
+    return [mutant for name, area in areas.items() for mutant in AREAS[area].mutants(name, content(name))]
 
 
 def survivors():
@@ -98,7 +115,7 @@ class Covered:
 
     def add(self, folder):
         """Adds what a run has written into the folder. What was known of a text that is another now goes."""
-        for name in programs():
+        for name in traced():
             digest = hashlib.sha256(content(name)).hexdigest()
             if self.digests.get(name) != digest:
                 self.digests[name], self.tests[name] = digest, {}
@@ -120,7 +137,10 @@ class Covered:
         return sorted({test.split("::")[0] for tests in self.tests.get(name, {}).values() for test in tests})
 
     def of(self, mutant):
-        """The tests that run the mutant's line, those first that run the fewest lines of its program."""
+        """The tests of the mutant's area, or those that run its line: those first that run the fewest lines of its program."""
+        named = next((area.tests for area in AREAS.values() if re.fullmatch(area.files, mutant.file)), "")
+        if named:
+            return named.split()
         lines = collections.Counter(test for tests in self.tests.get(mutant.file, {}).values() for test in tests)
         return sorted(self.tests.get(mutant.file, {}).get(str(mutant.line), []), key=lambda test: (lines[test], test))[:MOST_TESTS]
 
@@ -128,14 +148,14 @@ class Covered:
 def cover(tests, jobs):
     """Runs tests in a copy of the tree, and keeps which lines each of them runs."""
     with tempfile.TemporaryDirectory(prefix="mutation-") as folder:
-        top = planted_faults.copied_tree(os.path.join(folder, "tree"), built("cadf"))
+        top = trees.copied_tree(os.path.join(folder, "tree"), built("cadf"))
         into = os.path.join(folder, "lines")
         os.mkdir(into, 0o777)
         os.chmod(folder, 0o755)
         os.chmod(into, 0o777)  # tests run tools as other users too
-        environment = {**os.environ, "PYTHONPATH": os.path.join(HERE, "tracing"), "TRACED_INTO": into, "TRACED_NAMES": ":".join(programs()),
+        environment = {**os.environ, "PYTHONPATH": os.path.join(HERE, "tracing"), "TRACED_INTO": into, "TRACED_NAMES": ":".join(traced()),
                        "PYTHONDONTWRITEBYTECODE": "1", "PATH": "/usr/bin" + os.pathsep + os.environ["PATH"]}
-        words = [planted_faults.PYTHON, "-m", "pytest", "-q", "-p", "no:cacheprovider", "-n", str(jobs), "--dist", "loadgroup", *(tests or ["tests"])]
+        words = [trees.PYTHON, "-m", "pytest", "-q", "-p", "no:cacheprovider", "-n", str(jobs), "--dist", "loadgroup", *(tests or ["tests"])]
         done = subprocess.run(words, cwd=top, env=environment, stdin=subprocess.DEVNULL, check=False)
         if done.returncode not in (0, 1):  # 1: tests of time and memory fail under a tracer
             sys.exit("mutation: pytest ended with status %d" % done.returncode)
@@ -152,17 +172,17 @@ class Tried:
     """Trees in which mutants are tried, each by one thread at a time."""
 
     def __init__(self, folder, jobs, covered):
-        self.folder, self.covered, self.trees, self.clean = folder, covered, queue.Queue(), {}
+        self.covered, self.trees, self.clean = covered, queue.Queue(), {}
         for number in range(jobs):
-            self.trees.put(planted_faults.copied_tree(os.path.join(folder, str(number)), built("cadf")))
+            self.trees.put(trees.copied_tree(os.path.join(folder, str(number)), built("cadf")))
 
     def run(self, tests, top):
         """What tests say in a tree: the lines of tests/mutation/verdict.py, None if they take too long."""
         verdict = top + ".verdict"  # outside of the tree, whose files tests look at
-        words = [planted_faults.PYTHON, "-m", "pytest", "-q", "-p", "no:cacheprovider", "-p", "tests.mutation.verdict", "--verdict", verdict, *tests]
+        words = [trees.PYTHON, "-m", "pytest", "-q", "-p", "no:cacheprovider", "-p", "tests.mutation.verdict", "--verdict", verdict, *tests]
         with open(verdict, "w", encoding="utf-8"):
             pass
-        status = planted_faults.waited(words, top, patience.seconds(SECONDS))[0]
+        status = trees.waited(words, top, patience.seconds(SECONDS))
         with open(verdict, encoding="utf-8") as file:
             lines = file.read().splitlines()
         return None if status is None else lines + ["failed: pytest ended with status %d" % status] * (status > 1 and not lines)
@@ -239,11 +259,11 @@ def tried(chosen, covered, jobs):
     verdicts = {}
     with tempfile.TemporaryDirectory(prefix="mutation-") as folder, concurrent.futures.ThreadPoolExecutor(jobs) as pool:
         os.chmod(folder, 0o755)
-        trees = Tried(folder, jobs, covered)
+        tree = Tried(folder, jobs, covered)
 
         def one(mutant):
             begun = time.monotonic()
-            verdicts[mutant] = trees.verdict(mutant)
+            verdicts[mutant] = tree.verdict(mutant)
             print("%-9s %4.0f s  %s:%d: %s: %s" % (verdicts[mutant][0], time.monotonic() - begun, mutant.file, mutant.line, mutant.name(), verdicts[mutant][1]), flush=True)
 
         list(pool.map(one, chosen))
@@ -275,7 +295,7 @@ def main():
         print("".join("%s:%d: %s\n" % (mutant.file, mutant.line, mutant.name()) for mutant in mutants), end="")
         return 0
     covered = Covered().read()
-    stale = sorted({mutant.file for mutant in mutants if not covered.is_of(mutant.file)})
+    stale = sorted({mutant.file for mutant in mutants if not (AREAS[areas[mutant.file]].tests or covered.is_of(mutant.file))})
     if stale:
         tests = sorted({file for name in stale for file in covered.files(name) if os.path.exists(os.path.join(TOP, file))})
         print("mutation: which tests run %s isn't known as it is: %s run" % (", ".join(stale), "%d files of tests" % len(tests) if tests else "all tests"), flush=True)

@@ -1,7 +1,7 @@
 """What a mutant is: one place of a program's text where something else stands. All that a text has, in its order.
 
 The operators are what people get wrong: a comparison turned round or off by one, another constant, a statement left out,
-arguments in another order, branches exchanged, an exception swallowed, a flag or a mode of a call of the system.
+arguments in another order, branches exchanged, an exception swallowed or let through, a flag or a mode of a call of the system.
 """
 import ast
 from typing import NamedTuple
@@ -71,6 +71,10 @@ def of_expression(node, source):
         yield "arithmetic", with_field(node, op=ARITHMETIC[type(node.op)]())
     elif isinstance(node, ast.IfExp):
         yield "branches", with_field(node, body=node.orelse, orelse=node.body)
+    elif isinstance(node, ast.Tuple) and isinstance(node.ctx, ast.Load) and len(node.elts) > 1:
+        yield "elements", with_field(node, elts=node.elts[1:])
+        if not isinstance(node.elts[0], ast.Constant) and ast.dump(node.elts[0]) != ast.dump(node.elts[1]):
+            yield "elements", with_field(node, elts=[node.elts[1], node.elts[0], *node.elts[2:]])
     elif isinstance(node, ast.Call):
         yield from of_call(node)
 
@@ -131,6 +135,8 @@ class Finder:
         if isinstance(node, ast.If):
             begin, end = self.span(node.test)
             self.add(node.test, place, "branches", "(not (%s))" % self.text[begin:end].decode())
+        if isinstance(node, ast.ExceptHandler) and node.type:
+            self.add(node.type, place, "handler", "()")
         if isinstance(node, ast.stmt):
             for operator, new in of_statement(node):
                 self.add(node, place, operator, new)

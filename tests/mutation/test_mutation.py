@@ -1,7 +1,6 @@
 """Mutation by machine: which mutants a text has, which tests run a line, what counts as seen, and what is said of it all."""
 import importlib
 import os
-import re
 import shutil
 import subprocess
 import sys
@@ -9,7 +8,7 @@ import sys
 import pytest
 
 from tests import TOP
-from tests.mutation import operators
+from tests.mutation import operators, texts
 
 program = importlib.import_module("tests.mutation.__main__")
 TEXT = b'''"""What it is."""
@@ -23,8 +22,11 @@ def taken(names, most=3):
     for name in names:
         os.open(name, os.O_RDONLY | os.O_CLOEXEC, 0o600)
         names.count(name, most)
-    return (names
-            + [])
+    try:
+        return (names
+                + [])
+    except (OSError, EOFError):
+        return most, names
 '''
 WANTED = [
     "constant: 3 -> 4", "branches: len(names) >= most and names -> (not (len(names) >= most and names))", "comparison: len(names) >= most -> (len(names) > most)",
@@ -32,8 +34,25 @@ WANTED = [
     "statement: os.open(name, os.O_RDONLY | os.O_CLOEXEC, 0o600) -> pass", "flag: os.O_RDONLY | os.O_CLOEXEC -> (os.O_RDONLY)", "mode: 0o600 -> 0o666",
     "arguments: os.open(name, os.O_RDONLY | os.O_CLOEXEC, 0o600) -> (os.open(os.O_RDONLY | os.O_CLOEXEC, name, 384))",
     "statement: names.count(name, most) -> pass", "arguments: names.count(name, most) -> (names.count(most, name))",
-    "statement: return (names + []) -> return None", "arithmetic: names + [] -> (names - [] )",
+    "statement: return (names + []) -> return None", "arithmetic: names + [] -> (names - [] )", "handler: (OSError, EOFError) -> ()",
+    "elements: (OSError, EOFError) -> ((EOFError,))", "elements: (OSError, EOFError) -> ((EOFError, OSError))", "statement: return most, names -> return None",
+    "elements: most, names -> ((names,))", "elements: most, names -> ((names, most))",
 ]
+# Other texts, with their mutants.
+SCRIPT = b"""// most && least
+if (most > 5 && !least) put(most, least, "a") // 5
+  call(true);
+"""
+UNIT = b"""# Of 5.
+[Unit]
+NoNew=yes
+
+Most=5
+"""
+OTHERS = [(texts.of_script, SCRIPT, [
+    "comparison: > -> >=", "condition: && -> ||", "condition: ! -> ", "branches: (most > 5 && !least) -> (!(most > 5 && !least))", "constant: 5 -> 6",
+    "arguments: most, least -> least, most", 'constant: "a" -> "aX"', "statement: call(true); -> ", "constant: true -> false"]),
+    (texts.of_lines, UNIT, ["line: NoNew=yes -> ", "constant: yes -> no", "constant: yes -> yesX", "line: Most=5 -> ", "constant: 5 -> 6", "constant: 5 -> 5X"])]
 
 
 def test_mutants_of_a_text():
@@ -42,27 +61,30 @@ def test_mutants_of_a_text():
     assert {mutant.name().partition(": ")[0] for mutant in found} == {"tools/x"}
 
 
-@pytest.mark.parametrize("name", ["share/cadf/cadf_metrics.py", "tools/cadf-take", "tests/reference/times.py"])
+@pytest.mark.parametrize("of_text, text, wanted", OTHERS)
+def test_mutants_of_other_texts(of_text, text, wanted):
+    """None is in a comment."""
+    assert sorted(mutant.name().split(": ", 2)[2] for mutant in of_text("x", text)) == sorted(wanted)
+
+
+@pytest.mark.parametrize("name", ["tools/cadf-take", "share/cadf/report/filters.js", "examples/systemd/cadf-sync@.service"])
 def test_mutants_of_a_program(name):
-    """Each is a program in which one place differs, and every line has its number."""
-    text = program.content(name)
-    found = operators.mutants(name, text)
+    """In each one place differs, and every line has its number; one of Python is a program."""
+    text, is_python = program.content(name), name in program.traced()
+    found = program.mutants_of({name: program.programs()[name]})
     assert len(found) > 50
     for mutant in found:
         wrong = mutant.applied(text)
-        assert wrong != text and wrong.count(b"\n") == text.count(b"\n") and operators.is_right(wrong), mutant
+        assert wrong != text and wrong.count(b"\n") == text.count(b"\n") and is_python <= operators.is_right(wrong), mutant
         assert wrong.split(b"\n")[:mutant.line - 1] == text.split(b"\n")[:mutant.line - 1]
 
 
-def test_each_area_has_programs():
-    assert set(program.programs().values()) == set(program.AREAS) and program.programs()["tools/cadf-from-openstack"] == "tools"
-
-
 def test_survivors():
-    """Each line of the list names a mutant that there is, once."""
+    """Each line of the list names a mutant that there is, once; and each area has texts."""
     names = [line for line in program.text_of(program.SURVIVORS).splitlines() if line and not line.startswith("#")]
     there = {mutant.name() for mutant in program.mutants_of(program.programs())}
     assert len(program.survivors()) == len(names) and sorted(set(program.survivors()) - there) == []
+    assert set(program.programs().values()) == set(program.AREAS)
 
 
 # ---- Which tests run which lines
@@ -85,7 +107,7 @@ def test_traced_lines(tmp_path, monkeypatch):
     path = tmp_path / "share" / "cadf" / "cadf_metrics.py"  # a copy of a program, by its name
     path.write_text(TRACED)
     environment = {**os.environ, "PYTHONPATH": os.path.join(TOP, "tests", "mutation", "tracing"), "TRACED_INTO": str(tmp_path / "lines"),
-                   "TRACED_NAMES": ":".join(program.programs()), "PYTEST_CURRENT_TEST": "tests/x.py::test_a[b] c@group (call)"}
+                   "TRACED_NAMES": ":".join(program.traced()), "PYTEST_CURRENT_TEST": "tests/x.py::test_a[b] c@group (call)"}
     subprocess.run([sys.executable, str(path), "child"], check=True, env=environment, cwd=tmp_path)
     covered = program.Covered()
     covered.add(str(tmp_path / "lines"))
@@ -96,36 +118,38 @@ def test_traced_lines(tmp_path, monkeypatch):
     assert not covered.is_of("share/cadf/cadf_metrics.py")
 
 
-def test_tests_of_a_line():
-    """Those first that run few lines of the program."""
-    covered = program.Covered()
-    covered.tests = {"x": {"1": ["a", "b", "c"], "2": ["a"], "3": ["a", "b"]}}
-    mutant = operators.Mutant("x", "", "constant", 1, 0, 1, "1", "2")
-    assert covered.of(mutant) == ["c", "b", "a"] and covered.of(mutant._replace(line=2)) == ["a"] and covered.of(mutant._replace(line=4)) == []
-
-
 # ---- What counts as seen
 
-TESTS = """import subprocess, sys
+TESTS = """import subprocess, sys, time
 import pytest
 def ended(word):
     return subprocess.run([sys.executable, "tools/cadf-x", word], stdout=subprocess.PIPE, check=False).stdout
-def test_two():
-    assert ended("two") == b"2\\n"
-def test_three():
-    assert ended("three")
-def test_four():
-    int(ended("four"))
-def test_flaky():
-    assert ended("five") == b"2\\n"
+def test_2():
+    assert ended("2") == b"2\\n"
+def test_3():
+    assert ended("3")
+def test_4():
+    int(ended("4"))
+def test_5():
+    assert ended("5") == b"2\\n"
+def test_6():
+    with pytest.raises(ValueError):
+        int(ended("6") == b"6\\n" and "x")
+@pytest.mark.timeout(3)
+def test_7():
+    time.sleep(9 * (ended("7") != b"7\\n"))
 """
-PROGRAM = b"""#!/usr/bin/env python3
-import sys
-two = 2
-three = 3
-four = 4
-five = 5
-print({"two": two, "three": three, "four": four if four == 4 else "", "five": five}[sys.argv[1]])
+PROGRAM = b"""import sys
+n = {
+"2": 2,
+"3": 3,
+"4": 4,
+"5": 5,
+"6": 6,
+"7": 7,
+"8": 8}
+n["4"] = "" if n["4"] == 5 else 4
+print(n[sys.argv[1]])
 """
 
 
@@ -141,58 +165,25 @@ def trees(tmp_path, monkeypatch):
     (tree / "tests" / "test_x.py").write_text(TESTS)
     (tree / "pytest.ini").write_text("[pytest]\n")
     (tree / "tools" / "cadf-x").write_bytes(PROGRAM)
-    monkeypatch.setattr(program.planted_faults, "copied_tree", lambda folder, _: str(tree))
-    monkeypatch.setattr(program.planted_faults, "PYTHON", sys.executable)
+    monkeypatch.setattr(program.trees, "copied_tree", lambda folder, _: str(tree))
+    monkeypatch.setattr(program.trees, "PYTHON", sys.executable)
     covered = program.Covered()
-    covered.tests = {"tools/cadf-x": {str(line): ["tests/test_x.py::test_%s" % name] for line, name in ((3, "two"), (4, "three"), (5, "four"), (6, "flaky"))}}
+    covered.tests = {"tools/cadf-x": {str(line): ["tests/test_x.py::test_%d" % (line - 1)] for line in range(3, 9)}}
     return program.Tried(str(tmp_path), 1, covered)
 
 
 @pytest.mark.parametrize("line, verdict, said", [
-    (3, "killed", "tests/test_x.py::test_two"), (4, "survived", "1 tests run it"), (5, "left out", "failed tests/test_x.py::test_four: ValueError"),
-    (6, "left out", "tests/test_x.py::test_flaky fails without it"), (7, "uncovered", "")])
+    (3, "killed", "tests/test_x.py::test_2"), (4, "survived", "1 tests run it"), (5, "left out", "failed tests/test_x.py::test_4: ValueError"),
+    (6, "left out", "tests/test_x.py::test_5 fails without it"), (7, "killed", "tests/test_x.py::test_6"),
+    (8, "left out", "failed tests/test_x.py::test_7: Failed"), (9, "uncovered", "")])
 def test_verdict(trees, line, verdict, said):
-    """A mutant is seen by an assertion alone, of a test that passes without it; afterwards the tree is as it was."""
-    mutant = next(mutant for mutant in operators.mutants("tools/cadf-x", PROGRAM) if mutant.line == line)
+    """A mutant is seen by an assertion alone, or an expected exception that doesn't come, of a test that passes without it: neither by a
+    limit of time nor by any other exception. Afterwards the tree is as it was."""
+    mutant = [mutant for mutant in operators.mutants("tools/cadf-x", PROGRAM) if mutant.line == line and mutant.old.isdigit()][0]
     assert trees.verdict(mutant) == (verdict, said)
     top = trees.trees.get()
     with open(os.path.join(top, "tools", "cadf-x"), "rb") as file:
         assert file.read() == PROGRAM
-
-
-KINDS = """import pytest, time
-def test_assertion():
-    assert 0
-def test_raises():
-    with pytest.raises(ValueError):
-        pass
-@pytest.mark.timeout(1)
-def test_timeout():
-    time.sleep(9)
-def test_name():
-    no_such_name
-@pytest.fixture
-def broken():
-    import no_such_module
-def test_set_up(broken):
-    pass
-def test_passes():
-    pass
-"""
-
-
-def test_verdicts_of_pytest(tmp_path):
-    """An assertion, and an expected exception that doesn't come, are verdicts; a limit of time and any other exception are none."""
-    (tmp_path / "test_it.py").write_text(KINDS)
-    said = {}
-    for name in re.findall(r"def (test_\w+)", KINDS):
-        words = [sys.executable, "-m", "pytest", "-q", "-p", "no:cacheprovider", "-p", "tests.mutation.verdict", "--verdict", str(tmp_path / name),
-                 "%s::%s" % (tmp_path / "test_it.py", name)]
-        (tmp_path / name).write_text("")
-        subprocess.run(words, cwd=TOP, check=False, stdout=subprocess.PIPE)
-        said[name] = [line.split()[0] + line.rpartition(":")[2] * line.startswith("failed") for line in (tmp_path / name).read_text().splitlines()]
-    assert said == {"test_assertion": ["killed"], "test_raises": ["killed"], "test_timeout": ["failed Failed"], "test_name": ["failed NameError"],
-                    "test_set_up": ["failed ModuleNotFoundError"], "test_passes": []}
 
 
 # ---- Which are tried, and what is said of them
@@ -209,20 +200,6 @@ def test_changed_lines(tmp_path, monkeypatch):
     monkeypatch.setattr(program, "programs", lambda: {"tools/cadf-take": "tools"})
     monkeypatch.setattr(program, "TOP", str(tmp_path))
     assert dict(program.changed_lines("HEAD~1")) == {"tools/cadf-take": {2, 5, 6}} and not program.changed_lines("HEAD")
-
-
-def test_sample():
-    """As many of each area as are asked for, if there are so many; another seed gives others."""
-    areas = {"a": "tools", "b": "share"}
-    mutants = [operators.Mutant(name, "", "constant", line, line, line + 1, "1", "2") for name, count in (("a", 100), ("b", 3)) for line in range(count)]
-    first, again, other = (list(program.sample(mutants, areas, 10, seed)) for seed in (1, 1, 2))
-    assert first == again != other and [sum(mutant.file == name for mutant in first) for name in areas] == [10, 3] and len(set(first)) == 13
-
-
-@pytest.mark.parametrize("part, whole, wanted", [(8, 10, (49, 94)), (0, 0, (0, 100)), (0, 10, (0, 28)), (340, 400, (81, 88))])
-def test_interval(part, whole, wanted):
-    """Wilson's, as tables have it."""
-    assert program.interval(part, whole) == wanted
 
 
 def test_status(monkeypatch, capsys):

@@ -10,10 +10,9 @@ import subprocess
 from tests import TOP
 from tests.command import commands, vectors
 from tests.generated import drivers, generate
+from tests.mutation.trees import PYTHON
 from tests.package import completions
 from tests.proofs import corpus
-from tests.release import planted
-from tests.release.planted_faults import PYTHON
 from tests.tables import make, rows
 
 PLACES = {
@@ -23,7 +22,6 @@ PLACES = {
     "lines that a shell completes": completions.CASES,
     "kinds of generated calls": generate.KINDS,
     "kinds of generated calls of drivers": drivers.KINDS,
-    "planted faults": planted.ROWS,
     "mutants of must-fail": glob.glob(os.path.join(TOP, "crates", "*", "must-fail", "*")),
     **{"mutants of " + crate: corpus.read_table(crate) for crate in corpus.crates()},
     **{"rows of " + name: make.table(name).ROWS for name in make.tables()},
