@@ -1,16 +1,20 @@
 #!/usr/bin/env python3
 """Measures what a site's index costs, and what is asked by it.
 
-    bench/index.py [--days 60] [--events 2272] [--runs 3] [BINARY]
+    bench/index.py [--days 60] [--events 2272] [--runs 3] [--beside] [BINARY]
 
 A site of so many days, with so many events of OpenStack's shape a day, of which one in 200 has a second body, on its day or the
 next. First `cadf show` of each window, and the index as the first question makes it, with its bytes. Then questions by the index
-and by --no-index, the list of conflicts, and seals: the first, one by kept roots, and one after a day was taken.
+and by --no-index, the list of conflicts, and seals: the first, one by kept roots, and one after a day was taken. With --beside the
+same questions are put to jq over the log's lines, compressed by gzip, to ripgrep over them as they are, and to SQLite.
 """
+import contextlib
 import datetime
 import json
 import os
 import random
+import shlex
+import sqlite3
 import sys
 import tempfile
 
@@ -63,16 +67,54 @@ class Site(Trial):
         return run_apart([os.path.join(TOP, "tools", name), *words], statuses=(0, 5), environment=self.environment)
 
     def tell(self, said, found, beside=""):
-        print("| %s | %.2f s | %.0f MB | %s |" % (said, found.processors, found.memory, beside), flush=True)
+        print("| %s | %.2f s | %.2f s | %.0f MB | %s |" % (said, found.processors, found.wall, found.memory, beside), flush=True)
 
     def tell_best(self, said, name, *words, with_other=True):
         found = best_of([self.call(name, *words, self.site) for _ in range(self.runs)])
         other = self.call(name, "--no-index", *words, self.site) if with_other else None
         self.tell(said, found, "%.2f s" % other.processors if other else "")
 
+    def tell_beside(self, said, **calls):
+        """Tells what a question takes of others, by a call of the shell each."""
+        for name, call in calls.items():
+            self.tell("%s, by %s" % (said, name), best_of([run_apart(["sh", "-c", call]) for _ in range(self.runs)]))
+
+
+def make_others(site):
+    """Makes the log's lines, as they are and compressed, and a table of them with indexes. Returns the paths, for a shell."""
+    lines, table = site.path(), site.path()
+    run_apart([os.path.join(TOP, "tools", "cadf-events"), "--contradicted=mark", site.site], lines, statuses=(0, 5), environment=site.environment)
+    run_apart(["gzip", "-k", lines])
+    with contextlib.closing(sqlite3.connect(table)) as opened, open(lines, "rb") as file:
+        opened.execute("CREATE TABLE events (id TEXT, at TEXT, action TEXT, initiator TEXT, body TEXT)")
+        events = ((line, json.loads(line)) for line in file)
+        events = ((line, each.get("event", each)) for line, each in events)
+        opened.executemany("INSERT INTO events VALUES (?, ?, ?, ?, ?)",
+                           ((each["id"], each["eventTime"], each["action"], each["initiator"]["id"], line.decode()) for line, each in events))
+        for name, columns in ("by_id", "id"), ("by_time", "at"), ("by_action", "action"), ("by_initiator", "initiator, at"):
+            opened.execute("CREATE INDEX %s ON events (%s)" % (name, columns))
+        opened.commit()
+    return shlex.quote(lines), shlex.quote(table)
+
+
+def ask_others(site, day, next_day, user):
+    """Puts the questions to jq, SQLite and ripgrep."""
+    lines, table = make_others(site)
+    event, one = "(.event // .)", identifier("e1.1")
+    jq = lambda words: "zcat %s.gz | jq %s" % (lines, shlex.quote("%s | %s" % (event, words)))
+    sql = lambda words: "sqlite3 %s %s" % (table, shlex.quote("SELECT %s" % words))
+    rg = lambda words: "rg -F %s %s" % (shlex.quote(words), lines)
+    between = '(.eventTime >= "%s" and .eventTime < "%s")'
+    site.tell_beside("a day", jq=jq("select%s" % between % (day, next_day)), sqlite=sql("body FROM events WHERE at >= '%s' AND at < '%s'" % (day, next_day)),
+                     ripgrep=rg('"eventTime":"%s' % day))
+    site.tell_beside("a user's month", jq=jq('select(.initiator.id == "%s" and %s)' % (user, between % ("2024-01", "2024-02"))),
+                     sqlite=sql("body FROM events WHERE initiator = '%s' AND at >= '2024-01' AND at < '2024-02'" % user), ripgrep=rg(user))
+    site.tell_beside("an identifier", jq=jq('select(.id == "%s")' % one), sqlite=sql("body FROM events WHERE id = '%s'" % one), ripgrep=rg(one))
+    site.tell_beside("`--count-by action`", jq=jq(".action") + " | sort | uniq -c", sqlite=sql("action, count(*) FROM events GROUP BY action"))
+
 
 def main():
-    options = asked(__doc__, days=60, events=2272, runs=3)
+    options = asked(__doc__, days=60, events=2272, runs=3, beside=False)
     with tempfile.TemporaryDirectory() as folder:
         site = Site(options, folder)
         site.take(range(options.days), options.events)
@@ -80,17 +122,19 @@ def main():
         site.call("cadf-take", "--settle", site.site)
         names = [os.path.join(site.site, name) for name in sorted(os.listdir(site.site)) if name.endswith(".cadf")]
         size = sum(map(os.path.getsize, names))
-        print("%d MB in %d windows\n\n| Call | Processors | Memory | Without an index |\n|---|---|---|---|" % (size / 10 ** 6, len(names)))
+        print("%d MB in %d windows\n\n| Call | Processors | Clock | Memory | Without an index |\n|---|---|---|---|---|" % (size / 10 ** 6, len(names)))
         shown = [run_apart([options.binary, "show", name]) for name in names]
         site.tell("`cadf show` of each window", best_of(shown)._replace(processors=sum(each.processors for each in shown)))
         day = (FIRST + datetime.timedelta(days=options.days // 2)).date()
         of_day, user, of_site = ["--since=%s" % day, "--until=%s" % (day + datetime.timedelta(days=1))], identifier("u7"), {"with_other": False}
         site.tell("the first question, which makes the index", site.call("cadf-events", *of_day, site.site))
-        print("| its bytes | %.3f of the site | | |" % (os.path.getsize(os.path.join(site.site, ".index")) / size))
+        print("| its bytes | %.3f of the site | | | |" % (os.path.getsize(os.path.join(site.site, ".index")) / size))
         site.tell_best("a day", "cadf-events", *of_day)
         site.tell_best("a user's month", "cadf-events", "--initiator", user, "--since=2024-01", "--until=2024-02")
         site.tell_best("an identifier", "cadf-events", "--id", identifier("e1.1"))
         site.tell_best("`--count-by action`", "cadf-events", "--count-by", "action")
+        if options.beside:
+            ask_others(site, day, day + datetime.timedelta(days=1), user)
         site.tell_best("the list of conflicts", "cadf-conflicts", **of_site)
         site.tell("the first seal", site.call("cadf-seal", site.site))
         site.tell_best("a seal by kept roots", "cadf-seal", **of_site)
