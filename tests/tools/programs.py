@@ -1,8 +1,10 @@
 """The tools as modules, for tests that call a part of one, and what a program tells that may change no file."""
+import contextlib
 import errno
 import importlib.machinery
 import importlib.util
 import os
+import socket
 import time
 
 from tests import TOP
@@ -18,6 +20,24 @@ def loaded(path):
     module = importlib.util.module_from_spec(importlib.util.spec_from_loader(loader.name, loader))
     loader.exec_module(module)
     return module
+
+
+class Told:
+    """Lines that programs tell who may change no file, by datagrams of this machine alone."""
+
+    def __init__(self):
+        self.socket = socket.socket(socket.AF_INET, socket.SOCK_DGRAM)
+        self.socket.bind(("127.0.0.1", 0))
+        self.socket.setblocking(False)
+        self.tell = "bash -c 'cat >/dev/udp/127.0.0.1/%d'" % self.socket.getsockname()[1]  # tells the lines that it reads
+
+    def lines(self):
+        """The lines that were told since the last call."""
+        found = b""
+        with contextlib.suppress(BlockingIOError):
+            while True:
+                found += self.socket.recv(2 ** 16)
+        return found.decode().splitlines()
 
 
 def writer_to(path, child):

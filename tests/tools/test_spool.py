@@ -25,7 +25,7 @@ from tests.tools import others
 from tests.tools.copies import copied, is_caught
 from tests.tools.faulty import calls_of
 from tests.tools.odd_logs import EVENT
-from tests.tools.programs import is_read, loaded, tool, writer_to
+from tests.tools.programs import Told, is_read, loaded, tool, writer_to
 
 CALLS = "os.open os.mkdir os.rename os.fsync os.unlink os.rmdir fcntl.flock builtins.open subprocess.Popen"
 DAMAGED = "the file is damaged: fetch it again, or restore it as the guide says under `A damaged site`"
@@ -692,16 +692,12 @@ def test_group_at_fault(spools, fault):
     names = ["%d.json" % number for number in range(16)]
     folder = spools.site(**{name: document("BOMB" if name == "7.json" else name) for name in names})
     names.remove("7.json")
-    fifo = os.path.join(folder, "fifo")
-    os.mkfifo(fifo)
-    counting = os.open(fifo, os.O_RDWR | os.O_NONBLOCK)
-    os.write(counting, b"\n" * 100)  # a join may change no file, so each takes a line away
-    script = '[ "$1" = join ] && read line <%s && for each; do grep -sq BOMB "$each" && { %s; }; done' % (shlex.quote(fifo), fault)
+    told = Told()
+    script = 'echo "$1" | %s\n[ "$1" = join ] && for each; do grep -sq BOMB "$each" && { %s; }; done' % (told.tell, fault)
     done = spools.takes(folder, cadf=spools.command(folder, script))
     assert (done.status, last_line(done)) == (1, counted(15, 1))
     spools.leaves(folder, spools.joined(document(*names)), **names_in("set-aside", ["7.json", "7.json.reason"]), **names_in("taken", names))
-    joins = 100 - len(os.read(counting, 100))
-    os.close(counting)
+    joins = told.lines().count("join")
     assert 0 < joins <= 13  # one, two for each halving, and one; a second for each of three takes into a site that is there
 
 

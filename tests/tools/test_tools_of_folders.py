@@ -17,13 +17,15 @@ from tests.reference.replica_files import file_of
 from tests.reference.rulings import digest_of_value
 from tests.reference.shown_texts import values_by_key
 from tests.tools.copies import is_caught
+from tests.tools.programs import Told
 from tests.tools.test_events import LOG, folder_of
 from tests.tools.test_events import facts as facts_of_log
+from tests.tools.test_report import Data
 from tests.tools.test_site_folders import DAYS, EVENT, TOOLS, Site, atoms_of, contents, index_of, with_digest
 
 # A command that tells which files it is given.
 TELLING = """#!/bin/sh
-for word; do case $word in /dev/fd/*) readlink "$word" ;; esac; done >>%s
+for word; do case $word in /dev/fd/*) readlink "$word" ;; esac; done | %s
 exec %s "$@"
 """
 
@@ -35,20 +37,20 @@ class Sites:
         self.path, self.tools = path, tools
         self.north, self.south = Site(path, tools, "north"), Site(path, tools, "south")
         self.south.count = 100  # of its files' names
-        self.told = path / "told"
+        self.told = Told()
         telling = path / "telling"
-        telling.write_text(TELLING % (shlex.quote(str(self.told)), shlex.quote(Site.command)))
+        telling.write_text(TELLING % (self.told.tell, shlex.quote(Site.command)))
         telling.chmod(0o755)
         self.environment = dict(os.environ, CADF=str(telling))
 
     def run(self, tool, *words, **options):
-        self.told.write_text("")
+        self.told.lines()
         answer = ended(os.path.join(self.tools, "cadf-" + tool), [str(word) for word in words], env=self.environment, cwd=self.path, **options)
         return answer.status, answer.output.decode(), answer.error.decode().splitlines()
 
     def read(self):
         """The windows of the files that the last call has read."""
-        names = [os.path.basename(line) for line in self.told.read_text().splitlines()]
+        names = map(os.path.basename, self.told.lines())
         return {name.split(".")[0] for name in names if name.endswith(".cadf")}
 
     def file(self, name, *values):
@@ -57,6 +59,12 @@ class Sites:
         answer = ended(Site.command, ["join", *documents])
         (self.path / name).write_bytes(answer.output)
         return name
+
+
+def but_seal(answer):
+    """What a call answers, of a page without its line of the seal, which a folder has of its own kind."""
+    status, output, said = answer
+    return status, re.sub('<div id="seal">.*', "", output), said
 
 
 @pytest.fixture(autouse=True)
@@ -239,7 +247,8 @@ def test_lists_have_the_files_of_one_window_open_at_a_time(sites, words):
 def test_a_report_of_more_windows_than_files_may_be_open(sites):
     """What is made of the windows is joined a few at a time."""
     sites.north.takes({"id": "g", "events": [dict(EVENT, id="e%d" % day, eventTime="2024-%02d-%02dT00:00:00Z" % (4 + day // 28, 1 + day % 28)) for day in range(40)]})
-    assert sites.run("report", "north", **FEW) == sites.run("report", sites.file("file.cadf", json.loads((sites.path / "1.json").read_text())))
+    file = sites.file("file.cadf", json.loads((sites.path / "1.json").read_text()))
+    assert but_seal(sites.run("report", "north", **FEW)) == but_seal(sites.run("report", file)) != sites.run("report", file)
 
 
 MEASURED = """import sys
@@ -264,7 +273,7 @@ def test_lists_amid_takes(sites, words, call):
     """All of a take is listed or nothing of it, though it changes a window that was read before, and has a key that becomes common."""
     takes = [told_on_two_days(0), contents(3, 5)], [told_on_two_days(2), contents(6)]
     sites.north.takes(*takes[0])
-    wanted = [sites.run(*words, sites.file("%d.cadf" % count, *sum(takes[:count], []))) for count in (1, 2)]
+    wanted = [but_seal(sites.run(*words, sites.file("%d.cadf" % count, *sum(takes[:count], [])))) for count in (1, 2)]
     documents = [sites.north.put(value) for value in takes[1]]
     late = sites.path / "late"
     late.write_text("#!/bin/sh\nif [ $1 = %s ] && mkdir %s 2>%s; then\n  CADF=%s %s %s %s || exit 9\n  CADF=%s %s --settle %s || exit 9\nfi\nexec %s \"$@\"\n" % (call, *map(
@@ -272,7 +281,7 @@ def test_lists_amid_takes(sites, words, call):
         shlex.join(documents), *map(shlex.quote, [Site.command, os.path.join(sites.tools, "cadf-take"), str(sites.north.folder), Site.command])))
     late.chmod(0o755)
     sites.environment["CADF"] = str(late)
-    assert sites.run(*words, "north") in wanted and (sites.path / "once").is_dir()
+    assert but_seal(sites.run(*words, "north")) in wanted and (sites.path / "once").is_dir()
 
 
 def test_agree_amid_takes(sites):
@@ -353,12 +362,21 @@ def test_agree_keeps_digests_of_windows(sites):
 
 
 def test_report_of_a_folder_is_that_of_its_file(sites):
+    """But for the seal, and the names of two sites that are compared."""
+    def page(*words):
+        status, output, said = but_seal(sites.run("report", *words))
+        made = Data(output.encode())
+        names = made.data["union"].pop("names") if made.data["union"] else None
+        assert (status, said) == (0, [])
+        return names, output.replace(made.block, ""), made.data
+
     sites.north.takes(told_on_two_days(0))
     sites.north.takes(told_on_two_days(2))
     file = sites.file("file.cadf", told_on_two_days(0), told_on_two_days(2))
-    assert sites.run("report", "north/") == sites.run("report", file)
-    of_range = ["report", "--since", DAYS[2], "--against"]
-    assert sites.run(*of_range, "north/", file) == sites.run(*of_range, file, "north/") == sites.run(*of_range, file, file)
+    assert page("north/") == page(file)
+    pages = [page("--since", DAYS[2], "--against", *names) for names in (("north/", file), (file, "north/"), (file, file))]
+    assert [names for names, *_ in pages] == [[file, "north/"], ["north/", file], [file, file]]
+    assert pages[0][1:] == pages[1][1:] == pages[2][1:]
 
 
 @pytest.mark.parametrize("words", [["events"], ["report", "--since", "2024-03-01"]])
