@@ -14,7 +14,8 @@ from cadf_spool import is_there, within
 
 FILE = ".ledgers"  # of set-aside/, where no sender may be
 DAY = 86400
-KINDS = ("bytes", "files", "windows", "seconds")
+KINDS = ("bytes", "files", "windows", "seconds", "rereads")
+OF_TAKE = {"windows": ALL, "rereads": 10 ** 15 - 1}  # of which a take is told how much is left, at most so much: what is beyond waits, and no file stays for it
 LINE = re.compile(r"([0-9]{1,10})" + r" ([0-9]{1,20}\.[0-9]{3})" * (1 + len(KINDS)) + "\n")
 MOST = 4096  # ledgers; who comes later shares one
 OTHERS = 2 ** 32 - 1  # no user has this number
@@ -45,11 +46,11 @@ class Ledgers:
 
     def reached(self, user, more):
         """The first kind of which a user has reached the limit, with more that is to come, by kind; or None."""
-        return next((kind for kind in KINDS if kind != "windows" and self.level(user, kind) + more.get(kind, 0) >= self.limits[kind]), None)
+        return next((kind for kind in KINDS if kind not in OF_TAKE and self.level(user, kind) + more.get(kind, 0) >= self.limits[kind]), None)
 
-    def windows(self, user):
-        """How many windows a user may begin."""
-        return min(ALL, max(0, int(self.limits["windows"] - self.level(user, "windows"))))
+    def left(self, user, kind):
+        """How much is left to a user of a kind of which a take is told."""
+        return min(OF_TAKE[kind], max(0, int(self.limits[kind] - self.level(user, kind))))
 
     def write(self):
         """Writes the levels that aren't zero, if they can be."""

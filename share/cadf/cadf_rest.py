@@ -1,6 +1,8 @@
 """What a take into a folder leaves: events of windows beyond its limits and out of its bounds of time, and rulings, which go to a file of each sender.
 
-The windows that are there are taken, and of new ones those that are nearest to now, of the senders in turn.
+The windows that are there are taken, and of new ones those that are nearest to now, of the senders in turn. Whatever comes to a
+window, later calls read all of it again, and settling writes it: of windows far from now, to which little comes, that costs whoever
+sends it, and each sender may have so many bytes read again.
 """
 import contextlib
 import os
@@ -11,14 +13,14 @@ import tempfile
 import cadf_site
 from cadf_link import Store
 from cadf_rulings import file_of_atoms
-from cadf_times import chosen
+from cadf_times import chosen, first_within, is_far
 from cadf_toolkit import LARGEST, REFUSED, USAGE, Fault, another_program, cadf, grouped, name_shown, naming_temporary, new_file, opened, say, sync
 from cadf_welcome import rulings_in, without
 
 AT_ONCE = 200  # files that are joined at once
 COUNTED = re.compile(rb" atoms (\d+) conflicts \d+\n$")  # what cadf says of a file that it checks
 WHAT_NEXT = ": look at their "
-WHY = "%d new windows beyond the limits", "%d windows out of bounds", "%d rulings that aren't welcome"
+WHY = "%d new windows beyond the limits", "%d windows out of bounds", "%d far windows that would be read again", "%d rulings that aren't welcome"
 THERE = "it is there: name another file by --rest, or move it away"
 
 
@@ -47,10 +49,13 @@ class Rest:
     """The limits of a take that leaves what is beyond them to files: the limits, the files, and how many inputs in turn each sender has.
 
     `each` says how many windows each sender may begin, and `begun` afterwards of how many of those that were begun each has events.
+    `rereads` says how many bytes of far windows that are there each sender may have read again, if there is such a limit, and `reread`
+    afterwards how many each has.
     """
 
-    def __init__(self, name, most, each, bounds, senders, welcome=None):
+    def __init__(self, name, most, each, bounds, senders, welcome=None, rereads=None):
         self.most, self.each, self.bounds, self.senders, self.welcome, self.rulings = most, each, bounds, senders, welcome, set()
+        self.rereads, self.reread = rereads, []
         self.names = [name] if len(senders) == 1 else ["%s.%d" % (name, number) for number in range(1, len(senders) + 1)]
         self.apart, self.left, self.begun = Parts(), [], []
         for file in filter(os.path.lexists, self.names):
@@ -63,10 +68,14 @@ class Rest:
         return without(file, unwelcome) if unwelcome else None
 
     def is_apart(self, part, is_there):
-        return part != cadf_site.SHARED and not (is_there and self.bounds.has(part))
+        return part != cadf_site.SHARED and not (is_there and self.bounds.has(part) and not self.is_charged(part))
+
+    def is_charged(self, part):
+        """Whether who brings something to a window that is there is charged for that."""
+        return self.rereads is not None and is_far(part)
 
     def keeps(self, part, parts, is_there):
-        """Keeps the next part apart that is a new window, or out of bounds. False: it is to be taken."""
+        """Keeps the next part apart that is a new window, out of bounds, or far and there. False: it is to be taken."""
         if self.is_apart(part, is_there):
             self.apart.put(part, parts)
             return True
@@ -75,17 +84,22 @@ class Rest:
     @contextlib.contextmanager
     def finished(self, taking, inputs):
         """Takes the windows that are chosen, and has the rest on the disk before the site names them. A take that fails leaves no rest."""
-        new = [part for part in self.apart.items if self.bounds.has(part)]
+        within = {part for part in self.apart.items if self.bounds.has(part)}
+        self.sizes = {part: sum(sizes.values()) for part in within for sizes in [taking.sizes(part)] if sizes}
         if len(self.senders) == 1:
             self.apart.put_rulings(taking.index.log, self.rulings)
         senders = [self.apart] if len(self.senders) == 1 else list(self.parts_of_senders(taking, inputs)) if self.apart.items or self.rulings else []
-        taken = chosen([[part for part in new if part in each.items] for each in senders], self.most, self.each)
-        self.begun = [len(taken.intersection(each.items)) for each in senders] or [0] * len(self.senders)
+        begun = chosen([(within - self.sizes.keys()).intersection(each.items) for each in senders], self.most, self.each)
+        again = set().union(*(first_within(self.sizes.keys() & each.items.keys(), self.sizes, most) for each, most in zip(senders, self.rereads or ())))
+        taken = begun | again
+        self.begun = [len(begun.intersection(each.items)) for each in senders] or [0] * len(self.senders)
         for part in sorted(taken):
             for item in self.apart.items[part]:
                 with taking.new_file() as output:
                     output.writelines(item.blocks())
                 taking.keep(part, digest_of(item))
+        changed = again & taking.changed.keys()  # and not what brings nothing
+        self.reread = [sum(self.sizes[part] for part in changed.intersection(each.items)) for each in senders] or [0] * len(self.senders)
         left = [{part: items for part, items in each.items.items() if part not in taken} for each in senders]
         try:
             for name, parts, own in zip(self.names, left, senders):
@@ -132,15 +146,15 @@ class Rest:
         if not counted:
             raise another_program("answer of `cadf check`")
         windows = parts.keys() - {cadf_site.SHARED}
-        new = sum(map(self.bounds.has, windows))
-        self.left.append((name, int(counted[1]), new, len(windows) - new, rulings))
+        within, there = sum(map(self.bounds.has, windows)), len(windows & self.sizes.keys())
+        self.left.append((name, int(counted[1]), within - there, len(windows) - within, there, rulings))
         sync(os.path.dirname(os.path.abspath(name)))
 
     def tell(self):
         """Says what is left, a line a file. Returns whether there is some."""
         for name, facts, *counts in self.left:
             why = [words % count for count, words in zip(counts, WHY) if count]
-            what = "times" if any(counts[:2]) else "keys"
+            what = "times" if any(counts[:3]) else "keys"
             say("%s: %d facts wait, of %s%s%s; `cadf-take --windows all SITE FILE` takes them" % (name_shown(name), facts, " and ".join(why), WHAT_NEXT, what))
         return bool(self.left)
 

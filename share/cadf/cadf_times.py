@@ -19,6 +19,7 @@ RELATIVE = re.compile(r"(now|today|yesterday|tomorrow)?(?:([+-])([0-9]{1,6})(s|m
 EPOCH = datetime.date(1970, 1, 1).toordinal() * STEPS["d"]
 REST = {len("2024-03"): "-01", len("2024-03-01T12"): ":00Z"}  # what makes an instant of a month's or an hour's name
 NEVER = 2 ** 100  # after all
+NEAR = 3 * STEPS["d"]  # how far a window may be from now that gets events each day, of senders that are late too
 FIRST, AFTER = (day * STEPS["d"] for day in (1, datetime.date.max.toordinal() + 1))  # of the years that can be spelled
 
 
@@ -82,6 +83,22 @@ class Bounds(NamedTuple):
 def nearest(windows, at):
     """The windows in order of how far they are from an instant."""
     return sorted(windows, key=lambda window: (distance(window, at), window))
+
+
+def is_far(window):
+    """Whether a window is so far from now that others than who sends old events bring it nothing any more."""
+    return distance(window, now()) > NEAR
+
+
+def first_within(windows, sizes, most):
+    """Those of some windows that are nearest to now, until they have so many bytes together: the one that goes beyond is the last."""
+    before, found = 0, set()
+    for window in nearest(windows, now()):
+        if before >= most:
+            break
+        found.add(window)
+        before += sizes[window]
+    return found
 
 
 def chosen(wanted, most, each):

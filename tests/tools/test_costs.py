@@ -162,6 +162,21 @@ def test_tools_that_cost_more_are_caught(tmp_path, cadf, before, attack, right, 
         check_costs(tmp_path / "place", cadf, wrongs, attack, before, ("events",))
 
 
+@pytest.mark.xdist_group("costs")
+def test_an_event_in_each_window_costs_what_its_sender_may(tmp_path, cadf, tools):
+    """Of windows that have their roots kept a seal reads those again to which a stranger has brought something: as many bytes as a sender may, and a window."""
+    place = Place(tmp_path, cadf, tools)
+    place.run("cadf-take", "site/", "more.cadf")
+    place.counted(*CALLS["seal"])
+    files = [each.stat().st_size for each in (tmp_path / "site").glob("2024-*")]
+    sent = facts(*(dict(honest(day, 0), id="y") for day in range(1, DAYS + 1)))
+    place.put("sent.cadf", sent)
+    place.run("cadf-take", "--rest", "rest", "--senders", "1", "--sender-rereads", "1", "site/", "sent.cadf")
+    assert len(list((tmp_path / "site").glob("2024-*"))) == len(files) + 1  # else there is nothing to read
+    _, size = place.counted(*CALLS["seal"])
+    assert 0 < size <= SHARE * (max(files) + (tmp_path / "sent.cadf").stat().st_size), (size, files)
+
+
 # ---- An event whose texts are long
 
 SAID = r'(?m)^cadf-[a-z]+: left out %s, whose texts have \d+ bytes: give more by --largest, or have `cadf show` write it$'

@@ -104,7 +104,7 @@ def test_levels(tmp_path):
         finally:
             cadf_ledgers.time.time = right
         assert abs(found.level(7, "bytes") - level) < 1 and found.reached(7, {}) == why and found.reached(8, {"files": 1}) == ("files" if seconds <= 0 else None)
-    assert cadf_ledgers.Ledgers(folder, dict(limits, windows=5)).windows(7) == 2 and ledgers.windows(9) == cadf_ledgers.ALL
+    assert cadf_ledgers.Ledgers(folder, dict(limits, windows=5)).left(7, "windows") == 2 and ledgers.left(9, "windows") == cadf_ledgers.ALL
     (tmp_path / ".ledgers").write_text("7 x\n8 " + "9" * 400 + "\n")
     assert cadf_ledgers.Ledgers(folder, limits).levels == {}
     os.close(folder)
@@ -175,6 +175,22 @@ def test_windows_of_a_day(place):
     place.a_day_later()
     place.send("3.json", *days("2024-05-01", 3))
     assert place.run_once(windows=4)[0] == [] and len(place.holds()) == 7
+
+
+def test_old_windows_of_a_day(place):
+    """An event for each old window has as many bytes of them read again as a sender may cause in a day, the nearest to now; the others wait, once each."""
+    place.send("0.json", *days("2024-03-01", 6))
+    place.run_once()
+    size = max(len(own) for name, own in held(os.path.join(place.place, "site")).items() if name.startswith("2024-"))
+    more = days("2024-03-01", 6, "y")
+    for number, sent in (1, more), (2, more[:4]):
+        place.send("%d.json" % number, *sent)
+        assert place.run_once(rereads=2 * size)[0] == [] and place.holds() == atoms_of(*days("2024-03-01", 6), *more[4:])
+        wait = os.path.join(place.spool, "set-aside", "waits-%d.cadf" % USER)
+        assert read_file(content(wait))[1] == atoms_of(*more[:4]) and b"4 far windows that would be read again" in content(wait + ".reason")
+    place.a_day_later()
+    place.send("3.json", *days("2024-03-01", 6, "z"))
+    assert place.run_once(rereads=2 * size)[0] == [] and len(place.holds()) == 6 + 2 + 1  # a window was large by then
 
 
 def test_processor_time_of_a_day(place):
@@ -304,7 +320,9 @@ def test_files_that_are_claimed_wait_if_their_sender_has_cost_too_much(shared):
     (test_hard_links, ["found.st_nlink > 1", "found.st_nlink > 100"]),
     (test_bytes_of_a_day, ["if (made or part != self.spool.taking) and is_there(each, part):", "if False:"]),
     (test_files_of_a_day, ["coming[user].update(bytes=found.st_size, files=1)", "coming[user].update(bytes=found.st_size)"]),
-    (test_windows_of_a_day, ["self.charge(user, \"windows\", int(begun))", "self.charge(user, \"windows\", 0)"]),
+    (test_windows_of_a_day, ["self.charge(user, kind, int(amount))", "self.charge(user, kind, 0)"]),
+    (test_old_windows_of_a_day, ["changed = again & taking.changed.keys()", "changed = set()"]),
+    (test_old_windows_of_a_day, ["if before >= most:", "if False:"]),
     (test_processor_time_of_a_day, ["found.ru_utime + found.ru_stime + time.process_time()", "0"]),
     (test_a_cap_keeps_files_with_their_sender, ["size > most / len(sizes)", "size > most * 1000"]),
     (test_a_line_that_is_long, ["\"--longest=%d\" % self.budget.longest, ", ""]),

@@ -125,6 +125,26 @@ def test_senders_take_turns(place, most, each):
     assert place.file("rest.1") == atoms_of(*many[1:8]) and place.file("rest.2") == atoms_of(few)
 
 
+def test_far_windows_that_are_read_again(place):
+    """Of windows that are there and far from now those that are nearest are taken, until they have as many bytes as their sender may have read again."""
+    now = datetime.datetime.utcnow()
+    recent = [event("r%d" % number, (now - datetime.timedelta(hours=30 * number)).strftime("%Y-%m-%dT%H:%M:%SZ")) for number in range(3)]
+    old = days("2024-01-01", 4)
+    place.takes("--by", "day", "site", place.put("a", *old, *recent))
+    sizes = {each.name.split(".")[0]: each.stat().st_size for each in (place.path / "site").glob("2024-01*")}
+    more, late = days("2024-01-01", 4, "y"), [dict(each, id="l" + each["id"]) for each in recent]
+    words = ["--rest", "rest", "--senders", "1,1", "--sender-rereads"]
+    done = place.run("cadf-take", *words, "%d,0" % (sizes["2024-01-04"] + 1), "site", place.put("b", *more, *late), place.put("c", *days("2024-01-01", 1, "z")))
+    assert (done.status, done.output.decode()) == (5, "begun 0,0\nreread %d,0\n" % (sizes["2024-01-04"] + sizes["2024-01-03"]))
+    said = done.error.decode().splitlines()
+    assert said[0] == "cadf-take: rest.1: 2 facts wait, of 2 far windows that would be read again: look at their times; `cadf-take --windows all SITE FILE` takes them"
+    assert place.site() == atoms_of(*old, *recent, *late, *more[2:]) and place.file("rest.1") == atoms_of(*more[:2]) and len(place.file("rest.2")) == 1
+    done = place.run("cadf-take", "--rest", "none", "--senders", "1", "--sender-rereads", "1000000", "site", "a")
+    assert (done.status, done.output, done.error) == (0, b"begun 0\nreread 0\n", b"")  # what brings nothing costs nothing
+    place.takes("--windows", "all", "site", "rest.1", "rest.2")
+    assert place.site() >= atoms_of(*more, *days("2024-01-01", 1, "z"))
+
+
 def test_no_rest(place):
     """If all is taken there is no file of the rest, and the status is 0; with no rest but other senders too."""
     place.takes("--by", "day", "--rest", "rest", "--senders", "1,1", "site", place.put("1", *days("2024-01-01", 2)), place.put("2", *days("2024-02-01", 2)))
@@ -344,9 +364,12 @@ def test_a_star_in_a_name_stands_for_no_other_file(place):
 
 @pytest.mark.parametrize("check, texts", [
     (test_windows_that_are_there_and_the_nearest_to_now, ["key=lambda window: (distance(window, at), window)", "key=lambda window: window"]),
-    (test_windows_that_are_there_and_the_nearest_to_now, ["return part != cadf_site.SHARED and not (is_there and self.bounds.has(part))", "return part != cadf_site.SHARED"]),
+    (test_windows_that_are_there_and_the_nearest_to_now, ["(is_there and self.bounds.has(part) and not self.is_charged(part))", "False"]),
+    (test_far_windows_that_are_read_again, ["return self.rereads is not None and is_far(part)", "return self.rereads is not None"]),
+    (test_far_windows_that_are_read_again, ["return self.rereads is not None and is_far(part)", "return False"]),
+    (test_far_windows_that_are_read_again, ["changed = again & taking.changed.keys()", "changed = again"]),
     (test_bounds_of_time, ["first <= self.not_after", "first < self.not_after - 10 ** 15"]),
-    (test_bounds_of_time, ["return part != cadf_site.SHARED and not (is_there and self.bounds.has(part))", "return part != cadf_site.SHARED and not is_there"]),
+    (test_bounds_of_time, ["(is_there and self.bounds.has(part) and not self.is_charged(part))", "is_there"]),
     (functools.partial(test_senders_take_turns, most="2", each="2"), [
         "itertools.zip_longest(*(nearest(windows, at)[:own] for windows, own in zip(wanted, each)))", "[nearest(windows, at)[:own] for windows, own in zip(wanted, each)]"]),
     (functools.partial(test_senders_take_turns, most="3", each="1"), ["nearest(windows, at)[:own]", "nearest(windows, at)"]),
