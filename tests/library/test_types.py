@@ -7,14 +7,22 @@ from tests import TOP
 from tests.machine import said
 
 PACKAGE = os.path.join(TOP, "bindings", "python")
-RIGHT = """import cadf
+RIGHT = """import pathlib
+import cadf
 both: bytes = cadf.join([b"{}", "{}"], log="g")
 try:
     atoms: int = cadf.check(both).atoms
 except cadf.Refused as refused:
     number = (refused.input or 0) + refused.status
+site = cadf.Site(pathlib.Path("north"))
+is_whole: bool = site.take(both, pathlib.Path("south.cadf"), by="day")
+for event in site.events("2024-03", initiator=["a", "b"], failed=True):
+    count: int = event.contradicted + len(event["id"])
+site.rule([(conflict, 1) for conflict in site.conflicts()], by="ann")
+size: int = len(site.seal()) + sum(map(len, site.events().bodies()))
 """
-WRONG = ("cadf.join(1)", "cadf.join([b''], log=1)", "text: str = cadf.show(b'')", "cadf.check(b'').missing", "cadf.CadfError('x').input + 1")
+WRONG = ("cadf.join(1)", "cadf.join([b''], log=1)", "text: str = cadf.show(b'')", "cadf.check(b'').missing", "cadf.CadfError('x').input + 1",
+         "cadf.Site(1)", "cadf.Site('s').take(1)", "cadf.Site('s').events(1)", "cadf.Site('s').events(initiator=1)", "cadf.Site('s').rule([('k', 1)])")
 
 pytestmark = pytest.mark.needs("mypy")
 

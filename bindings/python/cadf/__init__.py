@@ -1,4 +1,4 @@
-"""The engines of cadf over bytes, in the process.
+"""The engines of cadf over bytes, in the process; and sites, by the tools.
 
     >>> import cadf
     >>> a, b = '{"id":"g","events":[],"name":"a"}', '{"id":"g","events":[],"name":"b"}'
@@ -13,21 +13,25 @@ ImportError if there is no library, or one that lacks a function.
 
 A call releases the interpreter's lock while it works, and any number of threads may call. Don't call in the forked child of
 a process that has threads: start multiprocessing's workers by `spawn` or `forkserver`.
+
+A Site is a site's file or folder. It needs no library: each of its calls starts a tool.
 """
 import ctypes
 import json
 import re
 import sys
-from typing import Any, Dict, Iterable, List, NamedTuple, Optional, Tuple, Type, Union
+from typing import Any, Iterable, List, NamedTuple, Optional, Tuple
 
 from . import _library
+from ._errors import ERRORS, NO_MEMORY, CadfError, CadfWarning, Failed, OutOfMemory, Refused, WrongArgument
+from ._inputs import Input, bytes_of as _of
+from ._site import Conflicts, Event, Events, Site
 
-__all__ = ["CadfError", "Check", "OutOfMemory", "Refused", "WrongArgument", "check", "inventory", "join", "missing", "missing_by",
-           "missing_by_sketch", "prove", "rehearse", "rule", "seal", "show", "sketch", "split", "verify", "version"]
+__version__ = "0.1.0"
+__all__ = ["CadfError", "CadfWarning", "Check", "Conflicts", "Event", "Events", "Failed", "OutOfMemory", "Refused", "Site", "WrongArgument",
+           "check", "inventory", "join", "missing", "missing_by", "missing_by_sketch", "prove", "rehearse", "rule", "seal", "show", "sketch",
+           "split", "verify", "version"]
 
-Input = Union[bytes, bytearray, memoryview, str]
-
-_PLACED = re.compile(r"(?:input (\d+): )?([a-z]+ \d+)?")
 _CHECKED = re.compile(rb"ok (.*) atoms (\d+) conflicts (\d+)\n", re.DOTALL)
 # What a call is given room for at first, beyond twice the size of its inputs.
 _ROOM = 4096
@@ -38,72 +42,12 @@ _new_bytes = ctypes.PYFUNCTYPE(ctypes.py_object, ctypes.c_void_p, ctypes.c_ssize
     ("PyBytes_FromStringAndSize", ctypes.pythonapi))
 
 
-class CadfError(Exception):
-    """Why a call made nothing: the command's line on standard error, without `cadf: `.
-
-    `status` is the exit status of the command, for which each class derived from this one stands. `input` is the number of
-    the refused input, from 1, and `place` is where in it, as `line 5`, `event 2`, `property 1` or `fact 3`; each is None if the
-    text names none.
-    """
-
-    status: int
-
-    def __init__(self, text: str) -> None:
-        super().__init__(text)
-        self.text = text
-        found = _PLACED.match(text)
-        number, place = found.groups() if found else (None, None)
-        self.input: Optional[int] = int(number) if number else None
-        self.place: Optional[str] = place
-
-
-class Refused(CadfError):
-    """An input is refused, or the inputs can't be joined."""
-
-    status = 1
-
-
-class WrongArgument(CadfError, ValueError):
-    """An argument beside the inputs is refused: `text` names it."""
-
-    status = 2
-
-
-class OutOfMemory(CadfError, MemoryError):
-    """There is no memory for what the call makes."""
-
-    status = 4
-
-
-_ERRORS: Dict[int, Type[CadfError]] = {kind.status: kind for kind in (Refused, WrongArgument, OutOfMemory)}
-_NO_MEMORY = "out of memory"
-
-
 class Check(NamedTuple):
     """What an input holds: its log, the number of its facts, and the number of keys with several values."""
 
     log: str
     atoms: int
     conflicts: int
-
-
-def _of(value: Input) -> bytes:
-    """The bytes of an input, by no method that a class derived from its own may replace: the library believes their length.
-
-    Bytes are not copied. Half of a surrogate pair becomes bytes that are no UTF-8, which the library refuses in its words.
-    """
-    if type(value) is bytes:
-        return value
-    try:
-        if isinstance(value, str):
-            return str.encode(value, "utf-8", "surrogatepass")
-        if isinstance(value, (bytes, bytearray, memoryview)):
-            return memoryview(value).tobytes()
-    except MemoryError:
-        raise OutOfMemory(_NO_MEMORY) from None
-    except ValueError:
-        raise TypeError("an input is bytes or a text, not a view that was released") from None
-    raise TypeError("an input is bytes or a text, not %s" % type(value).__name__)
 
 
 def _given(value: bytes) -> _library.Bytes:
@@ -147,9 +91,9 @@ def _call(name: str, room: int, *arguments: Any) -> bytes:
             room, text = length.value, b""
         text = text[:length.value]
     except (MemoryError, OverflowError):
-        raise OutOfMemory(_NO_MEMORY) from None
+        raise OutOfMemory(NO_MEMORY) from None
     if status:
-        raise _ERRORS[status](text.decode("utf-8", "replace") or _NO_MEMORY)
+        raise ERRORS[status](text.decode("utf-8", "replace") or NO_MEMORY)
     return text
 
 
@@ -160,7 +104,7 @@ def _texts(inputs: Iterable[Input]) -> List[bytes]:
     try:
         return [_of(value) for value in inputs]
     except MemoryError:
-        raise OutOfMemory(_NO_MEMORY) from None
+        raise OutOfMemory(NO_MEMORY) from None
 
 
 def _listed(texts: List[bytes]) -> Tuple[Any, int]:
@@ -168,7 +112,7 @@ def _listed(texts: List[bytes]) -> Tuple[Any, int]:
     try:
         return (_library.Bytes * max(len(texts), 1))(*map(_given, texts or [b""])), len(texts)
     except MemoryError:
-        raise OutOfMemory(_NO_MEMORY) from None
+        raise OutOfMemory(NO_MEMORY) from None
 
 
 def _log(log: Optional[str]) -> bytes:
