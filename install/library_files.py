@@ -6,7 +6,6 @@ The archive that is installed has the kit's allocator in it, so `-lcadf` alone l
 import os
 import re
 import runpy
-import shutil
 import subprocess
 import tempfile
 from typing import NamedTuple
@@ -39,8 +38,8 @@ def built(top):
 
 def version(top):
     """The version of the package for Python, which is that of the library too."""
-    with open(os.path.join(top, PACKAGE, "pyproject.toml"), encoding="utf-8") as file:
-        return re.search(r'(?m)^version = "(.*)"$', file.read()).group(1)
+    with open(os.path.join(top, PACKAGE, "cadf", "__init__.py"), encoding="utf-8") as file:
+        return re.search(r'(?m)^__version__ = "(.*)"$', file.read()).group(1)
 
 
 def why_not(top, names):
@@ -92,14 +91,9 @@ def wheel(top, folder):
     Raises CalledProcessError and OSError.
     """
     with tempfile.TemporaryDirectory() as room:
-        for name in contents.names_below(top, PACKAGE):
-            place = os.path.join(room, os.path.relpath(name, PACKAGE))
-            os.makedirs(os.path.dirname(place), exist_ok=True)
-            shutil.copyfile(os.path.join(top, name), place)
-        with tempfile.TemporaryDirectory() as made:
-            link(top, made)
-            shutil.copyfile(os.path.join(made, SONAME), os.path.join(room, "cadf", SONAME))
-        name = runpy.run_path(os.path.join(room, "backend.py"))["build_wheel"](room)
+        link(top, room)
+        library = contents.file_of(room, SONAME, "").content
+        name = runpy.run_path(os.path.join(top, PACKAGE, "backend.py"))["write_wheel"](room, library)
         file = contents.file_of(room, name, os.path.join(folder, name))
     with contents.replacing(file.place, file.place + ".new"):
         contents.write(file.place + ".new", file.content, file.mode)

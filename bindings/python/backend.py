@@ -1,21 +1,32 @@
 """Builds the wheel and the source archive of the package, with nothing but Python.
 
-The wheel carries a built library if one is beside the package, `cadf/libcadf.so.0`: then it is for Linux on x86-64, else
-for any platform, and finds a library at run time (cadf/_library.py). `pip install` needs no network: pyproject.toml
-names this module, and nothing else is required.
+The wheel carries the library that build/library made, if that is of the sources as they are: then it is for Linux on x86-64 with the C
+library that this needs. Without one it is for any platform, and made only if a library is found here already (cadf/_library.py), or if
+none is wanted: `pip install --config-settings library=none`. `pip install` needs no network: pyproject.toml names this module, and
+nothing else is required.
 """
 import ast
 import base64
 import gzip
 import hashlib
+import importlib.util
 import io
 import os
 import re
+import subprocess
+import sys
 import tarfile
+import tempfile
 import zipfile
 
 HERE = os.path.dirname(os.path.abspath(__file__))
+TOP = os.path.dirname(os.path.dirname(HERE))  # of the repository, if it is one
 LIBRARY = "cadf/libcadf.so.0"
+ASKED = re.compile(rb"\0GLIBC_(\d+)\.(\d+)(?=[.\d]*\0)")  # a version of the C library that a library names
+OLDEST = 2, 5  # of which a wheel can have a tag
+LACKING = """cadf: there is no library for the package: %s.
+build/library makes it, and then this carries it; or install it (install/install, or the package libcadf0), or name it by CADF_LIBRARY.
+For sites alone, which need none: pip install --config-settings library=none %s"""
 # The same bytes each time: what is in a wheel has this time, the least that it can.
 TIME = (1980, 1, 1, 0, 0, 0)
 
@@ -39,23 +50,31 @@ def _sources():
 def _metadata():
     """What is said of the package, with the first text of its module as its description."""
     fields = "".join("%s: %s\n" % line for line in (
-        ("Metadata-Version", "2.1"), ("Name", _field("name")), ("Version", _field("version")), ("Summary", _field("description")),
+        ("Metadata-Version", "2.1"), ("Name", _field("name")), ("Version", _version()), ("Summary", _field("description")),
         ("Author", _field("authors")), ("Requires-Python", _field("requires-python")), ("Description-Content-Type", "text/plain")))
     return ("%s\n%s\n" % (fields, ast.get_docstring(ast.parse(_read("cadf/__init__.py"))))).encode()
 
 
-def _tag():
-    return "py3-none-linux_x86_64" if os.path.exists(os.path.join(HERE, LIBRARY)) else "py3-none-any"
+def _version():
+    return re.search(r'(?m)^__version__ = "([^"]*)"', _read("cadf/__init__.py").decode()).group(1)
+
+
+def _tag(files):
+    """The platforms of a wheel of these files: those with a C library that has all that the carried library asks of it."""
+    if LIBRARY not in files:
+        return "py3-none-any"
+    asked = [(int(major), int(minor)) for major, minor in ASKED.findall(files[LIBRARY])]
+    return "py3-none-manylinux_%d_%d_x86_64" % max([OLDEST, *asked])
 
 
 def _name(kind=""):
-    return "%s-%s%s" % (_field("name"), _field("version"), kind)
+    return "%s-%s%s" % (_field("name"), _version(), kind)
 
 
-def _info():
+def _info(tag):
     """The files of the wheel's folder of facts, without the list of all files."""
-    pure = "true" if _tag().endswith("any") else "false"
-    wheel = "Wheel-Version: 1.0\nGenerator: cadf\nRoot-Is-Purelib: %s\nTag: %s\n" % (pure, _tag())
+    pure = "true" if tag.endswith("any") else "false"
+    wheel = "Wheel-Version: 1.0\nGenerator: cadf\nRoot-Is-Purelib: %s\nTag: %s\n" % (pure, tag)
     folder = _name(".dist-info/")
     return {folder + "METADATA": _metadata(), folder + "WHEEL": wheel.encode()}
 
@@ -68,8 +87,9 @@ def _line(name, content):
 
 def _write_wheel(folder, files):
     """Writes the wheel of these files. Returns its name."""
-    files = {**files, **_info()}
-    name, record = "%s-%s.whl" % (_name(), _tag()), _name(".dist-info/RECORD")
+    tag = _tag(files)
+    files = {**files, **_info(tag)}
+    name, record = "%s-%s.whl" % (_name(), tag), _name(".dist-info/RECORD")
     listed = "".join(_line(*file) for file in files.items()) + "%s,,\n" % record
     with zipfile.ZipFile(os.path.join(folder, name), "w", zipfile.ZIP_DEFLATED) as archive:
         for place, content in {**files, record: listed.encode()}.items():
@@ -79,9 +99,49 @@ def _write_wheel(folder, files):
     return name
 
 
+def write_wheel(folder, library=None):
+    """Writes the wheel of the package, with these bytes of the library, if there are any. Returns its name."""
+    return _write_wheel(folder, {**{name: _read(name) for name in _sources()}, **({LIBRARY: library} if library else {})})
+
+
+def _built():
+    """The library that build/library made of the sources as they are, linked. Raises OSError why there is none."""
+    if not os.path.exists(os.path.join(TOP, "install", "library_files.py")):
+        raise OSError("this isn't in the repository, where build/library would make it")
+    sys.path.insert(0, TOP)
+    sys.dont_write_bytecode = True
+    from build.plan import Plan
+    from install import library_files
+    why = library_files.why_not(TOP, Plan(TOP, library_files.CRATE).names)
+    if why:
+        raise OSError(why)
+    with tempfile.TemporaryDirectory() as folder:
+        library_files.link(TOP, folder)
+        with open(os.path.join(folder, library_files.SONAME), "rb") as file:
+            return file.read()
+
+
+def _is_here():
+    """Whether the package will find a library at run time, as it does here."""
+    found = importlib.util.spec_from_file_location("library", os.path.join(HERE, "cadf", "_library.py"))
+    module = importlib.util.module_from_spec(found)
+    found.loader.exec_module(module)
+    try:
+        module.load()
+    except ImportError:
+        return False
+    return True
+
+
 def build_wheel(wheel_directory, config_settings=None, metadata_directory=None):
-    carried = [LIBRARY] if not _tag().endswith("any") else []
-    return _write_wheel(wheel_directory, {name: _read(name) for name in _sources() + carried})
+    if (config_settings or {}).get("library") == "none":
+        return write_wheel(wheel_directory)
+    try:
+        return write_wheel(wheel_directory, _built())
+    except (OSError, subprocess.CalledProcessError, SystemExit) as why:  # the last where the kit isn't there, whose allocator is linked
+        if _is_here():
+            return write_wheel(wheel_directory)
+        sys.exit(LACKING % (why, HERE))
 
 
 def build_editable(wheel_directory, config_settings=None, metadata_directory=None):

@@ -4,6 +4,7 @@ bindings/c/call.c and the package answer each call of examples/vectors, and of g
 """
 import os
 import re
+import shutil
 import subprocess
 import sys
 
@@ -161,15 +162,27 @@ def venv(tmp_path_factory):
 
 @pytest.mark.parametrize("kind", ["folder", "wheel"])
 def test_installed_by_pip(prefix, venv, tmp_path, kind):
-    """The package as pip installs it, without a network, with the program that the page shows."""
+    """The package as pip installs it, without a network, with the program that the page shows: either way it has the library."""
     alone = {**environment(prefix), "PYTHONPATH": ""}
     package = PYTHON if kind == "folder" else str(tmp_path / library_files.wheel(TOP, str(tmp_path)))
-    if kind == "wheel":
-        alone.pop("CADF_LIBRARY")  # it has its own
+    alone.pop("CADF_LIBRARY")
     ran(venv / "bin" / "pip", "install", "-q", "--no-index", "--disable-pip-version-check", "--force-reinstall", package, env=alone)
     program = shown_program("python")
     line = re.search(r"# (Check\(.*\))$", program, re.MULTILINE).group(1)
     assert ran(venv / "bin" / "python", "-c", program, cwd=tmp_path, env=alone).splitlines()[:1] == [line]
+
+
+def test_pip_says_what_is_lacking(venv, tmp_path):
+    """Without a library to carry or to find it installs nothing and says what to do; the package alone, if that is meant."""
+    package = shutil.copytree(PYTHON, tmp_path / "package")
+    words = [venv / "bin" / "pip", "install", "--no-index", "--disable-pip-version-check", "--force-reinstall", package]
+    alone = {**os.environ, "PYTHONPATH": "", "CADF_LIBRARY": "/nowhere/libcadf.so.0"}
+    status, told = said(*words, env=alone)
+    assert status and "there is no library for the package" in told and "--config-settings library=none" in told, told
+    ran(*words, "--config-settings", "library=none", env=alone)
+    program = "import cadf\nprint(cadf.__version__, cadf.Site('x'))\ncadf.version()"
+    status, told = said(venv / "bin" / "python", "-c", program, cwd=tmp_path, env=alone)
+    assert status and told.startswith("%s Site('x')\n" % library_files.version(TOP)) and "ImportError: cadf: no library" in told, told
 
 
 def test_example(prefix):

@@ -99,7 +99,7 @@ def test_versions():
     """The library, the command and the package have one version."""
     number = ".".join(re.findall(r"const (?:MAJOR|MINOR|PATCH): u32 = (\d+);", text_of("crates", library_files.CRATE, "src", "lib.rt")))
     told = re.search(r'\.version\("(.*?)"\)', text_of("crates", "cadf_words", "src", "table.rt")).group(1)
-    assert number == told == library_files.version(TOP)
+    assert number == told == library_files.version(TOP) == cadf.__version__
 
 
 def test_package():

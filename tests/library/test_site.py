@@ -328,7 +328,3 @@ def test_shown_program(capsys):
     lines = capsys.readouterr().out.splitlines()
     assert lines[0] == "room ['a', 'b']" and lines[1].startswith("CADF-SITE-SEAL ")
     assert [each["state"] for each in cadf.Site("north/").conflicts()] == ["settled"]
-
-
-def test_version():
-    assert cadf.__version__ == re.search(r'(?m)^version = "(.*)"$', text_of("bindings", "python", "pyproject.toml")).group(1)

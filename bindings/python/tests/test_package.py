@@ -3,6 +3,7 @@ import ctypes
 import io
 import os
 import pickle
+import subprocess
 import sys
 import tarfile
 import tempfile
@@ -313,19 +314,55 @@ class Calls(unittest.TestCase):
 
 class Wheel(unittest.TestCase):
     def test_has_the_package_and_the_same_bytes_each_time(self):
-        with tempfile.TemporaryDirectory() as first, tempfile.TemporaryDirectory() as second:
-            name = backend.build_wheel(first)
-            self.assertEqual(name, backend.build_wheel(second))
-            paths = [os.path.join(folder, name) for folder in (first, second)]
-            with open(paths[0], "rb") as one, open(paths[1], "rb") as other:
-                self.assertEqual(one.read(), other.read())
-            with zipfile.ZipFile(paths[0]) as archive:
-                names, facts = archive.namelist(), archive.read("cadf-0.1.0.dist-info/METADATA").decode()
-            self.assertTrue({"cadf/__init__.py", "cadf/_library.py", "cadf/py.typed", "cadf-0.1.0.dist-info/RECORD"} <= set(names))
-            self.assertEqual("cadf/" + _library.NAME in names, name.endswith("linux_x86_64.whl"))
-            fields, description = facts.split("\n\n", 1)
-            self.assertLessEqual({"Name", "Version", "Summary", "Author", "Requires-Python"}, {line.split(":")[0] for line in fields.splitlines()})
+        for library in (None, b"library"):
+            with tempfile.TemporaryDirectory() as first, tempfile.TemporaryDirectory() as second:
+                name = backend.write_wheel(first, library)
+                self.assertEqual(name, backend.write_wheel(second, library))
+                paths = [os.path.join(folder, name) for folder in (first, second)]
+                with open(paths[0], "rb") as one, open(paths[1], "rb") as other:
+                    self.assertEqual(one.read(), other.read())
+                with zipfile.ZipFile(paths[0]) as archive:
+                    files = {name: archive.read(name) for name in archive.namelist()}
+            self.assertTrue({"cadf/__init__.py", "cadf/_library.py", "cadf/_site.py", "cadf/py.typed", "cadf-0.1.0.dist-info/RECORD"} <= set(files))
+            self.assertEqual(files.get("cadf/" + _library.NAME), library)
+            fields, description = files["cadf-0.1.0.dist-info/METADATA"].decode().split("\n\n", 1)
+            self.assertLessEqual({"Name", "Summary", "Author", "Requires-Python"}, {line.split(":")[0] for line in fields.splitlines()})
+            self.assertIn("Version: 0.1.0", fields.splitlines())
             self.assertIn("import cadf", description)
+
+    def test_is_for_the_c_library_that_the_carried_one_asks_for(self):
+        for text, tag in ((b"x", "2_5"), (b"\0GLIBC_2.2.5\0GLIBC_2.14\0libc.so.6\0", "2_14"), (b"\0GLIBC_2.34\0GLIBC_2.4\0", "2_34"), (b"xGLIBC_2.34\0", "2_5")):
+            with tempfile.TemporaryDirectory() as folder:
+                self.assertEqual(backend.write_wheel(folder, text), "cadf-0.1.0-py3-none-manylinux_%s_x86_64.whl" % tag)
+
+    def made(self, is_here, built, settings=None):
+        """What is made of what pip asks for; what is told, where nothing is made."""
+        with tempfile.TemporaryDirectory() as folder, mock.patch.multiple(backend, _built=mock.Mock(side_effect=[built]), _is_here=lambda: is_here):
+            try:
+                name = backend.build_wheel(folder, settings)
+            except SystemExit as why:
+                self.assertEqual(os.listdir(folder), [])
+                return str(why)
+            self.assertEqual(os.listdir(folder), [name])
+            return name
+
+    def test_that_lacks_a_library_is_not_made_and_says_what_to_do(self):
+        lacking = OSError("there is no archive")
+        self.assertIn("manylinux", self.made(False, b"library"))
+        self.assertIn("-any", self.made(True, lacking))
+        self.assertIn("-any", self.made(False, lacking, {"library": "none"}))
+        for why in (lacking, subprocess.CalledProcessError(1, "gcc"), SystemExit("the kit isn't on PATH")):
+            told = self.made(False, why)
+            for said in (str(why), "build/library", "CADF_LIBRARY", "--config-settings library=none"):
+                self.assertIn(said, told)
+
+    def test_asks_for_a_library_as_the_package_does(self):
+        with mock.patch.dict(os.environ, {_library.VARIABLE: "/nowhere/libcadf.so.0"}):
+            self.assertFalse(backend._is_here())
+
+    def test_of_a_folder_apart_says_where_a_library_is_made(self):
+        with mock.patch.object(backend, "TOP", "/nowhere"), self.assertRaisesRegex(OSError, "isn't in the repository"):
+            backend._built()
 
 
 class Source(unittest.TestCase):
