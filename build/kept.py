@@ -68,6 +68,11 @@ class Kept:
         if os.path.exists(self.mark(name)):
             os.remove(self.mark(name))
 
-    def keep(self, name, sources, verdict):
-        """Writes the mark of a library that was made of these sources. It has the time, so that no two are alike."""
-        record.write_file(self.mark(name), {**self.state(name, sources), "verdict": verdict, "time": str(time.time_ns())})
+    def pace(self, names):
+        """How many times as long as planned the last build took that kept one of these crates, as it said then."""
+        marks = [record.read_file(self.mark(name)) for name in names]
+        return max(((int(mark["time"]), float(mark.get("pace", 1))) for mark in marks), default=(0, 1.0))[1]
+
+    def keep(self, name, sources, verdict, pace):
+        """Writes the mark of a library that was made of these sources, at that pace. It has the time, so that no two are alike."""
+        record.write_file(self.mark(name), {**self.state(name, sources), "verdict": verdict, "pace": "%.2f" % pace, "time": str(time.time_ns())})

@@ -120,7 +120,7 @@ class Build:
         self.top, self.plan, self.targets, self.lanes, self.memory = top, plan, set(targets), lanes, 0
         self.kept, self.compiler = Kept(top), Compiler(top)
         self.running, self.verdicts, self.is_stopped = {}, {}, False
-        self.begun, self.kept_before = 0, set()
+        self.begun, self.kept_before, self.pace_before = 0, set(), 1.0
         self.lock = self.usual = None
 
     def __enter__(self):
@@ -184,15 +184,19 @@ class Build:
             if proof.sources != self.sources(proof.name):
                 raise Failed(CHANGED)
             if proof.name not in self.targets:
-                self.kept.keep(proof.name, proof.sources, proof.verdict())
+                self.kept.keep(proof.name, proof.sources, proof.verdict(), self.pace())
             self.verdicts[proof.name] = proof.verdict()
             self.say("%s is proved" % proof.name, "\n")
 
+    def pace(self):
+        """How many times as long as planned it takes: so far, or as long as that says nothing, the build before."""
+        since = time.monotonic() - self.begun
+        planned = self.plan.left(self.kept_before, self.lanes) - self.plan.left(self.verdicts, self.lanes)
+        return since / planned if since > PACED and planned > PACED else self.pace_before
+
     def left(self):
-        """The seconds that are left, by the plan and by the pace so far."""
-        left, since = self.plan.left(self.verdicts, self.lanes), time.monotonic() - self.begun
-        planned = self.plan.left(self.kept_before, self.lanes) - left
-        return left * since / planned if since > PACED and planned > PACED else left
+        """The seconds that are left, by the plan and by the pace."""
+        return self.plan.left(self.verdicts, self.lanes) * self.pace()
 
     def say(self, text, end_of_line):
         line = "%5.0f s  %s" % (time.monotonic() - self.begun, text)
@@ -218,6 +222,7 @@ class Build:
         """Proves the crates that are not kept, and the targets. Returns the verdicts. Raises Failed."""
         self.kept_before = self.kept.names(self.plan.names - self.targets)
         self.verdicts = {name: self.kept.verdict(name) for name in self.kept_before}
+        self.pace_before = self.kept.pace(self.kept_before)
         waiting = self.plan.names - self.kept_before
         while waiting or self.running:
             before = set(self.running)

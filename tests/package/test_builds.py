@@ -9,6 +9,7 @@ import time
 
 import pytest
 
+from build.plan import BUSY, SEVERAL, Plan
 from build.proving import JOB_MEMORY, PROOF_MEMORY, free_memory
 from tests import TOP
 from tests.machine import ended
@@ -303,6 +304,19 @@ def library(tree, *words, **more):
     status, said = tree.run("build/library", *words, **more)
     assert status == 0, said
     return tree.begun(), tree.path("crates/cadf_c/out/libcadf_c.a").read_text()
+
+
+def test_library_after_the_command(built):
+    """It takes over what build/command has proved, and says how long the rest takes by the pace of that, which is kept."""
+    built.add("crates/cadf_c/src/lib.rt")
+    built.add("crates.txt", "cadf_c staticlib: left low\n")
+    mark = built.path(".git/cadf-build/left.made")
+    assert "\npace: 1.00\n" in mark.read_text()  # too short to say anything
+    mark.write_text(mark.read_text().replace("\npace: 1.00\n", "\npace: 30.00\n"))
+    status, said = built.run("build/library", "--jobs", "1")
+    assert (status, built.begun()) == (0, ["cadf_c"]), said
+    planned = Plan(str(built.folder), "cadf_c").costs["cadf_c"] * SEVERAL / BUSY[1]
+    assert "1 of 3 crates to go, about %d min\n" % round(30 * planned / 60) in said
 
 
 def test_library(tree):
