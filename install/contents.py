@@ -30,6 +30,12 @@ class File(NamedTuple):
     content: bytes
 
 
+class Link(NamedTuple):
+    """A symbolic link to install, and the name in the same folder to which it leads."""
+    place: str
+    name: str
+
+
 def file_of(top, name, place, mode=None):
     """The file of the tree, for that place, with the permissions of its kind unless others are given: file systems tell their own."""
     with open(os.path.join(top, name), "rb") as file:

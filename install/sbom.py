@@ -48,16 +48,16 @@ SHARED = Linking({"GCC start-up code": OF_GCC, "GNU C Library start-up code": OF
 STATIC = Linking({"GCC start-up code and support library": OF_GCC, "GNU C Library": OF_C_LIBRARY}, {})
 
 
-def libraries(top):
-    """The names of the kit's libraries that are linked into the command, in order."""
+def libraries(top, target=record.PROGRAM):
+    """The names of the kit's libraries that are linked into the command, or into the library for C, in order."""
     uses = listed(top)
-    found = {name for crate in Plan(top, record.PROGRAM).names for name in uses[crate] if name not in uses}
+    found = {name for crate in Plan(top, target).names for name in uses[crate] if name not in uses}
     return sorted(found.union(*(WITH.get(name, []) for name in found)))
 
 
-def copyright_lines(top):
+def copyright_lines(top, target):
     """The lines of Debian's copyright file on these libraries."""
-    followed = [(name, FOLLOWED[name]) for name in libraries(top) if name in FOLLOWED]
+    followed = [(name, FOLLOWED[name]) for name in libraries(top, target) if name in FOLLOWED]
     return "\n".join(" %s%s %s: %s, %s" % (name, "" if of.crate == name else " (%s)" % of.crate, of.version, of.licence.replace("OR", "or"),
                                            "copyright (c) " + of.holder if of.holder else "no holder named") for name, of in followed)
 

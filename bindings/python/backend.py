@@ -41,13 +41,13 @@ def _field(name):
     return re.search(r'(?m)^%s = (?:\[\{ name = )?"([^"]*)"' % name, _read("pyproject.toml").decode()).group(1)
 
 
-def _sources():
+def sources():
     """The files of the package."""
     names = sorted(os.listdir(os.path.join(HERE, "cadf")))
     return ["cadf/" + name for name in names if name.endswith((".py", ".typed"))]
 
 
-def _metadata():
+def metadata():
     """What is said of the package, with the first text of its module as its description."""
     fields = "".join("%s: %s\n" % line for line in (
         ("Metadata-Version", "2.1"), ("Name", _field("name")), ("Version", _version()), ("Summary", _field("description")),
@@ -76,7 +76,7 @@ def _info(tag):
     pure = "true" if tag.endswith("any") else "false"
     wheel = "Wheel-Version: 1.0\nGenerator: cadf\nRoot-Is-Purelib: %s\nTag: %s\n" % (pure, tag)
     folder = _name(".dist-info/")
-    return {folder + "METADATA": _metadata(), folder + "WHEEL": wheel.encode()}
+    return {folder + "METADATA": metadata(), folder + "WHEEL": wheel.encode()}
 
 
 def _line(name, content):
@@ -101,7 +101,7 @@ def _write_wheel(folder, files):
 
 def write_wheel(folder, library=None):
     """Writes the wheel of the package, with these bytes of the library, if there are any. Returns its name."""
-    return _write_wheel(folder, {**{name: _read(name) for name in _sources()}, **({LIBRARY: library} if library else {})})
+    return _write_wheel(folder, {**{name: _read(name) for name in sources()}, **({LIBRARY: library} if library else {})})
 
 
 def _built():
@@ -149,10 +149,10 @@ def build_editable(wheel_directory, config_settings=None, metadata_directory=Non
 
 
 def build_sdist(sdist_directory, config_settings=None):
-    files = {name: _read(name) for name in ["pyproject.toml", "backend.py", *_sources()]}
+    files = {name: _read(name) for name in ["pyproject.toml", "backend.py", *sources()]}
     packed = io.BytesIO()
     with tarfile.open(fileobj=packed, mode="w", format=tarfile.PAX_FORMAT) as archive:
-        for place, content in {**files, "PKG-INFO": _metadata()}.items():
+        for place, content in {**files, "PKG-INFO": metadata()}.items():
             entry = tarfile.TarInfo(_name("/") + place)  # of no time and no owner
             entry.size = len(content)
             archive.addfile(entry, io.BytesIO(content))

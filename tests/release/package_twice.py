@@ -26,7 +26,7 @@ def made(folder, name, processors):
     tree, out = os.path.join(folder, name, "tree"), os.path.join(folder, name, "out")
     os.umask(umask)
     subprocess.run(["git", "clone", "-q", TOP, tree], check=True)
-    for words in ([], ["--static"]):
+    for words in (["--library"], ["--static"]):
         subprocess.run([os.path.join(tree, "install", "package"), *words, out], env={**os.environ, **environment}, check=True,
                        preexec_fn=lambda: os.sched_setaffinity(0, processors))
     paths = sorted(os.path.join(out, one) for one in os.listdir(out)) + [os.path.join(tree, "crates", "cadf", "out", "cadf.o")]
