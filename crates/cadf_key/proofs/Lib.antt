@@ -1,0 +1,2 @@
+pub mod CollectedKeys
+pub mod Common
