@@ -6,8 +6,9 @@ pub use Rattle.cadf_tree.specs.Made.{Kinds, MadeHasBothRoots, MadeIsRead, all_pa
 unfoldable pub use Rattle.cadf_tree.specs.Made.{made}
 pub use Rattle.cadf_tree.specs.OnePass.{IsBefore, Rises, alike, extended}
 unfoldable pub use Rattle.cadf_tree.specs.OnePass.{AreApart, parting, parting_from}
-pub use Rattle.cadf_tree.specs.Presence.{PresenceIsSound, all_asked, first_part, is_absent, is_past, is_present, member, needs}
-pub use Rattle.cadf_tree.specs.Pruned.{Fork, Hidden, Pruned, Read, Shown, beside_read, both_read, is_earlier, is_later, is_of, items, joined, leaves_of, number, read, read_all, side_hash, side_root, summaries, whole}
+pub use Rattle.cadf_tree.specs.Presence.{PresenceIsSound, all_asked, first_part, is_absent, is_ahead, is_past, is_present, member, needs, shown, state}
+pub use Rattle.cadf_tree.specs.PresenceMade.{PresenceIsComplete, above, asked_kinds, first_digest, is_above, is_below, is_between, kind_if, presence_parts, starts_below, walked_kinds}
+pub use Rattle.cadf_tree.specs.Pruned.{Fork, Hidden, Pruned, Read, Shown, beside_read, both_read, is_earlier, is_hidden, is_later, is_of, is_spare, items, joined, leaves_of, number, read, read_all, side_hash, side_root, summaries, whole}
 pub use Rattle.cadf_tree.specs.Tree.{Branch, IsDigest, IsSet, Text, Tip, Tree, all_leaves, beside, hash, leaf_hash, leaf_text, leaves, less, node_hash, node_text, ones, root, root_hash, root_text, tree_hash, zeros}
 unfoldable pub use Rattle.cadf_tree.specs.Tree.{bit, divided, tree_of}
 pub use Rattle.cadf_tree.specs.Walked.{is_asked, latest, walked, whole_sides}
@@ -25,9 +26,9 @@ pub use Rattle.sha2.proofs.Facts256.{length-sha256}
 pub use Rattle.sha2.specs.Sha256.{sha256}
 pub use Rattle.std.proofs.Common.{Bool, List, None, Option, Some, [], ap, append-nil, append_assoc, arith, cond, drop, false, get_or, inl, inr, length, length-append, length-drop, length-take-le, refl, subst, suc, sym, take, true, zero, ℕ, ◌%◌, ◌*◌, ◌++◌, ◌+◌, ◌-◌, ◌/◌, ◌<◌, ◌^◌, ◌∙◌, ◌∷◌, ◌≡◌, ◌≤◌}
 pub use Rattle.std.proofs.Math.Nat.{div-div-eq-div-mul, div-mul-le_self, one-le-pow}
-pub use Rattle.std.proofs.lemmas.Bool.{eqb-true, le-ltb, leb-true, lt-ltb, ltb-false, ltb-true}
+pub use Rattle.std.proofs.lemmas.Bool.{eqb-true, le-leb, le-ltb, leb-true, lt-ltb, ltb-false, ltb-true}
 pub use Rattle.std.proofs.lemmas.Grind.{common_steps}
-pub use Rattle.std.proofs.lemmas.List.{append_cancel_left, drop_more, take_at, take_rest}
+pub use Rattle.std.proofs.lemmas.List.{append_cancel_left, drop_more, take-append-drop, take_at, take_rest}
 pub use Rattle.std.proofs.lemmas.List.Elements.{filter-append}
 pub use Rattle.std.proofs.lemmas.Map.Text.{is_eq-slice_cmp}
 pub use Rattle.std.proofs.lemmas.Nat.{le-div}
@@ -35,7 +36,7 @@ pub use Rattle.std.specs.Cmp.Lexicographic.{nat_list_cmp_total, slice_cmp}
 pub use Rattle.std.specs.List.{AllByRecursion, filter, list_any}
 unfoldable pub use Rattle.std.specs.List.Sorted.{IsStrictlySortedBy}
 pub use Rattle.std.specs.Option.{option_or}
-pub use Rattle.std.specs.Ordering.{is_eq, is_lt, nat_cmp, ordering_then}
-pub use Rattle.std.specs.Prelude.{Ok, if◌then◌else◌, nat_eq, nat_le, nat_lt, not, option_map, unwrap_or, ◌&&◌, ◌||◌, ◌⊎◌}
+pub use Rattle.std.specs.Ordering.{is_eq, is_lt, nat_cmp, ordering_reverse, ordering_then}
+pub use Rattle.std.specs.Prelude.{IfOk, Ok, if◌then◌else◌, nat_eq, nat_le, nat_lt, not, option_map, unwrap_or, ◌&&◌, ◌||◌, ◌⊎◌}
 pub use Rattle.std.specs.declared.cmp.Ordering.{Ordering}
 pub use Rattle.std.specs.declared.cmp.Ordering.TheVariants.{Equal, Greater, Less}

@@ -7,7 +7,7 @@ use Rattle.cadf_tree.proofs.Judged.{IsAccepted, accepted, tree_of_parts, tree_it
 
 -- ---- a set's digests rise
 
-sorted_rising : (ds : List Text) → IsStrictlySortedBy (slice_cmp nat_cmp) ds → AreRising ds
+pub sorted_rising : (ds : List Text) → IsStrictlySortedBy (slice_cmp nat_cmp) ds → AreRising ds
 unfolding IsStrictlySortedBy
 sorted_rising [] h = tt
 sorted_rising (d ∷ []) h = tt

@@ -64,11 +64,11 @@ abbrev pub side_leaves : (Kind → Bool) → List Cell → List Text
 side_leaves on [] = []
 side_leaves on (c ∷ cs) = its_side on c ++ side_leaves on cs
 
-items_append : (cs ds : List Cell) → cell_items (cs ++ ds) ≡ cell_items cs ++ cell_items ds
+pub items_append : (cs ds : List Cell) → cell_items (cs ++ ds) ≡ cell_items cs ++ cell_items ds
 items_append [] ds = refl
 items_append (c ∷ cs) ds = ap (λ l. cell_item c ∷ l) (items_append cs ds)
 
-side_append : (on : Kind → Bool) (cs ds : List Cell) → side_leaves on (cs ++ ds) ≡ side_leaves on cs ++ side_leaves on ds
+pub side_append : (on : Kind → Bool) (cs ds : List Cell) → side_leaves on (cs ++ ds) ≡ side_leaves on cs ++ side_leaves on ds
 side_append on [] ds = refl
 side_append on (c ∷ cs) ds = ap (λ l. its_side on c ++ l) (side_append on cs ds) ∙ sym (append_assoc (its_side on c) (side_leaves on cs) (side_leaves on ds))
 
@@ -103,12 +103,12 @@ those_marked on (One k d ∷ cs) e =
 
 -- ---- where nothing collides
 
-record IsSome (ds : List Text) : Type 0 where
-  head : Text
-  tail : List Text
-  is : ds ≡ head ∷ tail
+pub record IsSome (ds : List Text) : Type 0 where
+  pub head : Text
+  pub tail : List Text
+  pub is : ds ≡ head ∷ tail
 
-some_leaf : (t : Tree) → IsSome (leaves t)
+pub some_leaf : (t : Tree) → IsSome (leaves t)
 some_leaf (Tip d) = record { head = d; tail = []; is = refl }
 some_leaf (Branch l r) =
     let left = some_leaf l in

@@ -1,3 +1,5 @@
+mod Asking
+mod Celled
 mod Differing
 mod Filling
 mod Halving

@@ -88,11 +88,11 @@ abbrev pub kept_of : (Kind → Bool) → Option Tree → Kinds → Option Tree
 kept_of on None ks = None
 kept_of on (Some t) ks = kept on t ks
 
-or_left : (a b : Bool) → (a || b) ≡ false → a ≡ false
+pub or_left : (a b : Bool) → (a || b) ≡ false → a ≡ false
 or_left true b h = h
 or_left false b h = refl
 
-or_rest : (a b : Bool) → (a || b) ≡ false → b ≡ false
+pub or_rest : (a b : Bool) → (a || b) ≡ false → b ≡ false
 or_rest true b h = absurd (cc)
 or_rest false b h = h
 

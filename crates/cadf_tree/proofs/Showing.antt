@@ -11,18 +11,18 @@ use Rattle.cadf_tree.proofs.Differing.{earlier_found, all_rise, added_off, its_i
 abbrev pub IsLess : Text → Text → Type 0
 IsLess d e = less d e ≡ true
 
-is_less : (o : Ordering) → is_lt o ≡ true → o ≡ Less
+pub is_less : (o : Ordering) → is_lt o ≡ true → o ≡ Less
 is_less Less h = refl
 is_less Equal h = absurd (false_true h)
 is_less Greater h = absurd (false_true h)
 
-less_trans : (x y z : Text) → IsLess x y → IsLess y z → IsLess x z
+pub less_trans : (x y z : Text) → IsLess x y → IsLess y z → IsLess x z
 less_trans x y z h k = ap is_lt (nat_list_cmp_total.trans x y z (is_less _ h) (is_less _ k))
 
-less_apart : (x y : Text) → IsLess x y → is_text x y ≡ false
+pub less_apart : (x y : Text) → IsLess x y → is_text x y ≡ false
 less_apart x y h = sym (is_eq-slice_cmp x y) ∙ ap is_eq (is_less _ h)
 
-less_apart_too : (x y : Text) → IsLess x y → is_text y x ≡ false
+pub less_apart_too : (x y : Text) → IsLess x y → is_text y x ≡ false
 less_apart_too x y h = by (is_text y x) refl
   where
     by : (z : Bool) → is_text y x ≡ z → z ≡ false
@@ -37,11 +37,11 @@ less_apart_too x y h = by (is_text y x) refl
 abbrev pub NotIn : Text → List Text → Type 0
 NotIn f ds = AllByRecursion (λ d. is_text d f ≡ false) ds
 
-not_member : (f : Text) (ds : List Text) → NotIn f ds → member f ds ≡ false
+pub not_member : (f : Text) (ds : List Text) → NotIn f ds → member f ds ≡ false
 not_member f [] h = refl
 not_member f (d ∷ ds) h = (λ i. h.0 i || member f ds) ∙ not_member f ds h.1
 
-not_both : (f : Text) (ds es : List Text) → NotIn f ds → NotIn f es → NotIn f (ds ++ es)
+pub not_both : (f : Text) (ds es : List Text) → NotIn f ds → NotIn f es → NotIn f (ds ++ es)
 not_both f [] es h k = k
 not_both f (d ∷ ds) es h k = (h.0, not_both f ds es h.1 k)
 
@@ -62,7 +62,7 @@ abbrev pub last : Text → List Text → Text
 last b [] = b
 last b (c ∷ bs) = last c bs
 
-from_last : (b : Text) (bs us : List Text) → AreRising (b ∷ bs ++ us) → AreRising (last b bs ∷ us)
+pub from_last : (b : Text) (bs us : List Text) → AreRising (b ∷ bs ++ us) → AreRising (last b bs ∷ us)
 from_last b [] us h = h
 from_last b (c ∷ bs) us h = from_last c bs us h.1
 
@@ -70,7 +70,7 @@ below_last : (f b : Text) (bs us : List Text) → AreRising (b ∷ bs ++ us) →
 below_last f b [] us h low = low
 below_last f b (c ∷ bs) us h low = less_trans b c f h.0 (below_last f c bs us h.1 low)
 
-block_below : (f b : Text) (bs us : List Text) → AreRising (b ∷ bs ++ us) → IsLess (last b bs) f → NotIn f (b ∷ bs)
+pub block_below : (f b : Text) (bs us : List Text) → AreRising (b ∷ bs ++ us) → IsLess (last b bs) f → NotIn f (b ∷ bs)
 block_below f b [] us h low = (less_apart b f low, tt)
 block_below f b (c ∷ bs) us h low = (less_apart b f (below_last f b (c ∷ bs) us h low), block_below f c bs us h.1 low)
 
@@ -121,7 +121,7 @@ absent_side f (One Both d ∷ cs) h = (h.0, absent_side f cs h.1)
 absent_side f (One Added d ∷ cs) h = absent_side f cs h.1
 absent_side f (One Gone d ∷ cs) h = (h.0, absent_side f cs h.1)
 
-or_right : (a b : Bool) → b ≡ true → (a || b) ≡ true
+pub or_right : (a b : Bool) → b ≡ true → (a || b) ≡ true
 or_right true b h = refl
 or_right false b h = h
 
@@ -129,7 +129,7 @@ member_right : (f : Text) (ds es : List Text) → member f es ≡ true → membe
 member_right f [] es h = h
 member_right f (d ∷ ds) es h = or_right (is_text d f) (member f (ds ++ es)) (member_right f ds es h)
 
-present_side : (f : Text) (cs : List Cell) → is_present (cell_items cs) f ≡ true → member f (side_leaves is_earlier cs) ≡ true
+pub present_side : (f : Text) (cs : List Cell) → is_present (cell_items cs) f ≡ true → member f (side_leaves is_earlier cs) ≡ true
 present_side f [] h = absurd (false_true h)
 present_side f (Block g b bs ∷ cs) h = member_right f (b ∷ bs) (side_leaves is_earlier cs) (present_side f cs h)
 present_side f (One Both d ∷ cs) h = by (is_text d f) h (present_side f cs)

@@ -4,6 +4,7 @@ pub mod Halved
 pub mod Made
 pub mod OnePass
 pub mod Presence
+pub mod PresenceMade
 pub mod Pruned
 pub mod Tree
 pub mod Walked

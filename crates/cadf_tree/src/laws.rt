@@ -3,6 +3,7 @@ ghost use Rattle.std.specs.Prelude.{◌≡◌, List, ℕ};
 ghost use Rattle.cadf_tree.specs.GrowthLaws.{EarlierIsHonest, LaterIsHonest, BothAreHonest};
 ghost use Rattle.cadf_tree.specs.Made.{MadeIsRead, MadeHasBothRoots};
 ghost use Rattle.cadf_tree.specs.Presence.{PresenceIsSound};
+ghost use Rattle.cadf_tree.specs.PresenceMade.{PresenceIsComplete};
 ghost use Rattle.cadf_tree.specs.Tree.{IsSet, all_leaves, tree_of};
 
 /// States that the leaves of a set's tree, from left to right, are its digests, ascending.
@@ -29,4 +30,10 @@ pub fn presence_is_sound()
 pub fn made_tree_has_both_roots()
     ensures read { MadeIsRead }
     ensures roots { MadeHasBothRoots }
+{}
+
+/// States that the parts that are made for some digests are accepted under the set's root, show of each of these whether it is
+/// in the set, and show no leaf that none of them needs.
+pub fn presence_is_complete()
+    ensures { PresenceIsComplete }
 {}

@@ -1,6 +1,7 @@
 //! The tree of a set of digests: its root, and proofs of what is in the set and of how it grew.
 #![tactic(auto)]
 
+mod asked;
 mod growth;
 mod laws;
 mod parts;
@@ -8,8 +9,12 @@ mod presence;
 mod pruning;
 mod tree;
 
+pub use asked::presence_of;
 pub use growth::{Growth, TreeFault, grew};
-pub use laws::{growth_is_sound, made_tree_has_both_roots, presence_is_sound, tree_has_the_set};
+pub use laws::{
+    growth_is_sound, made_tree_has_both_roots, presence_is_complete, presence_is_sound,
+    tree_has_the_set,
+};
 pub use parts::{Kind, Part};
 pub use presence::{shown, state};
 pub use pruning::parts_of;
