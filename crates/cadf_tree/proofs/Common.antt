@@ -1,6 +1,7 @@
 -- What the proofs of this crate take from outside. Written by tests/proofs/imports.py.
 pub use Rattle.cadf_tree.specs.Grown.{all_beside, all_needed, are_equal, counts_agree, fault_unless, first_changed, fits, growth_unless, has_changed, has_spare, hidden_leaves, is_seen, is_text, may_hide, order_fault, rise, roots_fault, sides, sides_fault, tree_fault, verdict}
 pub use Rattle.cadf_tree.specs.GrowthLaws.{AllSideHashes, AreRising, BothAreHonest, DoNotCollide, EarlierIsHonest, GrownFrom, GrownTo, Hashes, HaveHashes, IsDifference, IsHashedBy, IsHashedFor, IsHashedForBoth, IsHashedOf, JoinedHashes, LaterIsHonest, Marked, SideHashes, TreeHashes, all_kinds, is_added, is_gone, those}
+pub use Rattle.cadf_tree.specs.GrowthMade.{GrowthIsComplete, UnchangedIsAHash, all_of, before, change_shown, compared, digests_of, from, growth_parts, is_changed, kinds_of, past, starts_changed, starts_with}
 pub use Rattle.cadf_tree.specs.Halved.{IsHalved}
 pub use Rattle.cadf_tree.specs.Made.{Kinds, MadeHasBothRoots, MadeIsRead, all_parts, any_shown, first_kind, is_on, is_shown, leaf_part, made_leaf, made_of, made_parts, preorder, side, size}
 unfoldable pub use Rattle.cadf_tree.specs.Made.{made}

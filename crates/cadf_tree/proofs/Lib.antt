@@ -1,5 +1,6 @@
 mod Asking
 mod Celled
+mod Comparing
 mod Differing
 mod Filling
 mod Halving

@@ -1,5 +1,6 @@
 pub mod Grown
 pub mod GrowthLaws
+pub mod GrowthMade
 pub mod Halved
 pub mod Made
 pub mod OnePass

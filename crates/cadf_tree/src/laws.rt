@@ -1,6 +1,7 @@
 //! Laws over the definitions alone. Each function's contract is a theorem, and its body is empty.
 ghost use Rattle.std.specs.Prelude.{◌≡◌, List, ℕ};
 ghost use Rattle.cadf_tree.specs.GrowthLaws.{EarlierIsHonest, LaterIsHonest, BothAreHonest};
+ghost use Rattle.cadf_tree.specs.GrowthMade.{GrowthIsComplete, UnchangedIsAHash};
 ghost use Rattle.cadf_tree.specs.Made.{MadeIsRead, MadeHasBothRoots};
 ghost use Rattle.cadf_tree.specs.Presence.{PresenceIsSound};
 ghost use Rattle.cadf_tree.specs.PresenceMade.{PresenceIsComplete};
@@ -36,4 +37,11 @@ pub fn made_tree_has_both_roots()
 /// in the set, and show no leaf that none of them needs.
 pub fn presence_is_complete()
     ensures { PresenceIsComplete }
+{}
+
+/// States that the parts that are made of two sets are accepted under their roots, and show their difference. Those of a set
+/// that didn't change are its hash.
+pub fn growth_is_complete()
+    ensures accepted { GrowthIsComplete }
+    ensures unchanged { UnchangedIsAHash }
 {}

@@ -2,6 +2,7 @@
 #![tactic(auto)]
 
 mod asked;
+mod compared;
 mod growth;
 mod laws;
 mod parts;
@@ -10,10 +11,11 @@ mod pruning;
 mod tree;
 
 pub use asked::presence_of;
+pub use compared::growth_of;
 pub use growth::{Growth, TreeFault, grew};
 pub use laws::{
-    growth_is_sound, made_tree_has_both_roots, presence_is_complete, presence_is_sound,
-    tree_has_the_set,
+    growth_is_complete, growth_is_sound, made_tree_has_both_roots, presence_is_complete,
+    presence_is_sound, tree_has_the_set,
 };
 pub use parts::{Kind, Part};
 pub use presence::{shown, state};
