@@ -5,6 +5,7 @@ mod Differing
 mod Filling
 mod Halving
 mod Judged
+mod Listing
 mod Making
 mod OnePass
 mod Rising

@@ -5,6 +5,7 @@ mod asked;
 mod compared;
 mod growth;
 mod laws;
+mod listed;
 mod parts;
 mod presence;
 mod pruning;
@@ -17,6 +18,7 @@ pub use laws::{
     growth_is_complete, growth_is_sound, made_tree_has_both_roots, presence_is_complete,
     presence_is_sound, tree_has_the_set,
 };
+pub use listed::first_unlisted;
 pub use parts::{Kind, Part};
 pub use presence::{shown, state};
 pub use pruning::parts_of;
