@@ -22,7 +22,7 @@ abbrev pub kinds_in : List Cell → Kinds
 kinds_in [] = []
 kinds_in (c ∷ cs) = its_kinds c ++ kinds_in cs
 
-kinds_append : (cs ds : List Cell) → kinds_in (cs ++ ds) ≡ kinds_in cs ++ kinds_in ds
+pub kinds_append : (cs ds : List Cell) → kinds_in (cs ++ ds) ≡ kinds_in cs ++ kinds_in ds
 kinds_append [] ds = refl
 kinds_append (c ∷ cs) ds = ap (λ l. its_kinds c ++ l) (kinds_append cs ds) ∙ sym (append_assoc (its_kinds c) (kinds_in cs) (kinds_in ds))
 
@@ -188,24 +188,24 @@ hidden_in [] = 0
 hidden_in (Block h b bs ∷ cs) = suc (length bs + hidden_in cs)
 hidden_in (One k d ∷ cs) = hidden_in cs
 
-hidden_most : (cs : List Cell) → number None (cell_items cs) ≤ hidden_in cs
+pub hidden_most : (cs : List Cell) → number None (cell_items cs) ≤ hidden_in cs
 hidden_most [] = omega arith
 hidden_most (Block h b bs ∷ cs) = omega (arith, hidden_most cs)
 hidden_most (One k d ∷ cs) = hidden_most cs
 
-none_hidden : (cs : List Cell) → number None (cell_items cs) ≡ 0 → hidden_in cs ≡ 0
+pub none_hidden : (cs : List Cell) → number None (cell_items cs) ≡ 0 → hidden_in cs ≡ 0
 none_hidden [] e = refl
 none_hidden (Block h b bs ∷ cs) e = absurd (omega (arith, e))
 none_hidden (One k d ∷ cs) e = none_hidden cs e
 
-earlier_count : (cs : List Cell) → length (side_leaves is_earlier cs) ≡ (number (Some Both) (cell_items cs) + number (Some Gone) (cell_items cs)) + hidden_in cs
+pub earlier_count : (cs : List Cell) → length (side_leaves is_earlier cs) ≡ (number (Some Both) (cell_items cs) + number (Some Gone) (cell_items cs)) + hidden_in cs
 earlier_count [] = refl
 earlier_count (Block h b bs ∷ cs) = omega (arith, length-append bs (side_leaves is_earlier cs), earlier_count cs)
 earlier_count (One Both d ∷ cs) = omega (arith, earlier_count cs)
 earlier_count (One Added d ∷ cs) = earlier_count cs
 earlier_count (One Gone d ∷ cs) = omega (arith, earlier_count cs)
 
-later_count : (cs : List Cell) → length (side_leaves is_later cs) ≡ (number (Some Both) (cell_items cs) + number (Some Added) (cell_items cs)) + hidden_in cs
+pub later_count : (cs : List Cell) → length (side_leaves is_later cs) ≡ (number (Some Both) (cell_items cs) + number (Some Added) (cell_items cs)) + hidden_in cs
 later_count [] = refl
 later_count (Block h b bs ∷ cs) = omega (arith, length-append bs (side_leaves is_later cs), later_count cs)
 later_count (One Both d ∷ cs) = omega (arith, later_count cs)
@@ -222,7 +222,7 @@ hides below hidden most none = by (nat_eq hidden 0) refl
     by true e = ap (λ n. nat_eq n 0) (none (eqb-true hidden 0 e))
     by false e = le-leb hidden below most
 
-left_hidden : (n shown hidden below : ℕ) → n ≡ shown + below → hidden ≤ below → (hidden ≡ 0 → below ≡ 0) → hidden_leaves n shown hidden ≡ Some below
+pub left_hidden : (n shown hidden below : ℕ) → n ≡ shown + below → hidden ≤ below → (hidden ≡ 0 → below ≡ 0) → hidden_leaves n shown hidden ≡ Some below
 left_hidden n shown hidden below e most none =
     ap (λ z. if z then None else if may_hide (n - shown) hidden then Some (n - shown) else None) (le-ltb n shown (omega (arith, e)))
     ∙ ap (λ m. if may_hide m hidden then Some m else None) rest

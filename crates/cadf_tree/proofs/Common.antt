@@ -13,6 +13,7 @@ pub use Rattle.cadf_tree.specs.PresenceMade.{PresenceIsComplete, above, asked_ki
 pub use Rattle.cadf_tree.specs.Pruned.{Fork, Hidden, Pruned, Read, Shown, beside_read, both_read, is_earlier, is_hidden, is_later, is_of, is_spare, items, joined, leaves_of, number, read, read_all, side_hash, side_root, summaries, whole}
 pub use Rattle.cadf_tree.specs.Tree.{Branch, IsDigest, IsSet, Text, Tip, Tree, all_leaves, beside, hash, leaf_hash, leaf_text, leaves, less, node_hash, node_text, ones, root, root_hash, root_text, tree_hash, zeros}
 unfoldable pub use Rattle.cadf_tree.specs.Tree.{bit, divided, tree_of}
+pub use Rattle.cadf_tree.specs.Vouched.{AreSteps, ChainIsVouched, IsHashedForLater, IsVouched, LaterVouches, without}
 pub use Rattle.cadf_tree.specs.Walked.{is_asked, latest, walked, whole_sides}
 pub use Rattle.cadf_tree.specs.declared.growth.Growth.{Growth}
 pub use Rattle.cadf_tree.specs.declared.growth.Sides.{Sides}
@@ -32,6 +33,7 @@ pub use Rattle.std.proofs.lemmas.Bool.{eqb-true, le-leb, le-ltb, leb-true, lt-lt
 pub use Rattle.std.proofs.lemmas.Grind.{common_steps}
 pub use Rattle.std.proofs.lemmas.List.{append_cancel_left, drop_more, take-append-drop, take_at, take_rest}
 pub use Rattle.std.proofs.lemmas.List.Elements.{filter-append}
+pub use Rattle.std.proofs.lemmas.List.Kept.{IsStrictlySortedBy-filter}
 pub use Rattle.std.proofs.lemmas.List.Sorted.{IsNonDecreasingBy-from_all_adjacent}
 pub use Rattle.std.proofs.lemmas.Map.Text.{is_eq-slice_cmp}
 pub use Rattle.std.proofs.lemmas.Nat.{le-div}
@@ -41,6 +43,6 @@ pub use Rattle.std.specs.List.Sorted.{IsNonDecreasingBy, IsPartitionPoint}
 unfoldable pub use Rattle.std.specs.List.Sorted.{IsStrictlySortedBy}
 pub use Rattle.std.specs.Option.{option_or}
 pub use Rattle.std.specs.Ordering.{is_eq, is_lt, nat_cmp, ordering_index, ordering_reverse, ordering_then}
-pub use Rattle.std.specs.Prelude.{IfOk, Ok, if◌then◌else◌, nat_eq, nat_le, nat_lt, not, option_map, slice_index_or, unwrap_or, ◌&&◌, ◌||◌, ◌⊎◌}
+pub use Rattle.std.specs.Prelude.{IfOk, Ok, Result, if◌then◌else◌, nat_eq, nat_le, nat_lt, not, option_map, slice_index_or, unwrap_or, ◌&&◌, ◌||◌, ◌⊎◌}
 pub use Rattle.std.specs.declared.cmp.Ordering.{Ordering}
 pub use Rattle.std.specs.declared.cmp.Ordering.TheVariants.{Equal, Greater, Less}

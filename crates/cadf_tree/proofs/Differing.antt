@@ -15,7 +15,7 @@ sorted_rising (d ∷ e ∷ ds) h = (ap is_lt h.0.0, sorted_rising (e ∷ ds) h.1
 
 -- ---- leaves that changed
 
-added_is : (cs : List Cell) → those is_added (marked cs) ≡ leaves_of Added (cell_items cs)
+pub added_is : (cs : List Cell) → those is_added (marked cs) ≡ leaves_of Added (cell_items cs)
 added_is [] = refl
 added_is (Block h b bs ∷ cs) = those_append is_added (plain bs) (marked cs) ∙ (λ i. none_of bs i ++ added_is cs i)
   where
@@ -26,7 +26,7 @@ added_is (One Both d ∷ cs) = added_is cs
 added_is (One Added d ∷ cs) = ap (λ l. d ∷ l) (added_is cs)
 added_is (One Gone d ∷ cs) = added_is cs
 
-gone_is : (cs : List Cell) → those is_gone (marked cs) ≡ leaves_of Gone (cell_items cs)
+pub gone_is : (cs : List Cell) → those is_gone (marked cs) ≡ leaves_of Gone (cell_items cs)
 gone_is [] = refl
 gone_is (Block h b bs ∷ cs) = those_append is_gone (plain bs) (marked cs) ∙ (λ i. none_of bs i ++ gone_is cs i)
   where
@@ -93,12 +93,12 @@ module _ (Q : Text → Type 0) (free : DoNotCollide Q) (on off : Kind → Bool) 
 
 -- ---- one root of a set
 
-tree_texts : (Q : Text → Type 0) (free : DoNotCollide Q) (o : Option Tree) → ((x : Text) → TreeHashes o x → Q x) → AllOf Q free o
+pub tree_texts : (Q : Text → Type 0) (free : DoNotCollide Q) (o : Option Tree) → ((x : Text) → TreeHashes o x → Q x) → AllOf Q free o
 tree_texts Q free None h = tt
 tree_texts Q free (Some t) h = h
 
 -- what stands after the number
-root_tree : (n m : ℕ) (g h : Text) → root_text n g ≡ root_text m h → g ≡ h
+pub root_tree : (n m : ℕ) (g h : Text) → root_text n g ≡ root_text m h → g ≡ h
 root_tree n m g h e = ap (drop 9) e
 
 -- the parts under two roots of which one is that of a set
@@ -158,7 +158,7 @@ none_earlier n b ps empty h = (none.1, by)
     by Added e = absurd (false_true e)
     by Gone e = omega (arith, none.0)
 
-none_later : (a : Root) (n : ℕ) (ps : List Part) → n ≡ 0 → are_equal (hidden_leaves a.count (number (Some Both) ps + number (Some Gone) ps) (number None ps))
+pub none_later : (a : Root) (n : ℕ) (ps : List Part) → n ≡ 0 → are_equal (hidden_leaves a.count (number (Some Both) ps + number (Some Gone) ps) (number None ps))
     (hidden_leaves n (number (Some Both) ps + number (Some Added) ps) (number None ps)) ≡ true
     → (number None ps ≡ 0) × ((k : Kind) → is_later k ≡ true → number (Some k) ps ≡ 0)
 none_later a n ps empty h = (none.1, by)

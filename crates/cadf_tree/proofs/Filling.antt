@@ -14,7 +14,7 @@ halves_of a b c d m n e =
     let first : a ≡ c = sym (take_at a b 32 m) ∙ ap (take 32) same ∙ take_at c d 32 n in
     (first, append_cancel_left c b d (ap (λ x. x ++ b) (sym first) ∙ same))
 
-apart : (d a b : Text) → leaf_text d ≡ node_text a b → ⊥
+pub apart : (d a b : Text) → leaf_text d ≡ node_text a b → ⊥
 apart d a b e = absurd (cc)
 
 filled : (x : ℕ) (d : Text) → [] ≡ x ∷ d → ⊥
@@ -123,7 +123,7 @@ leaf_long : (z : Bool) (d x : Text) → (if z then Some (leaf_hash d) else None)
 leaf_long true d x e = ap length (sym (same_some (leaf_hash d) x e)) ∙ length-sha256 (leaf_text d)
 leaf_long false d x e = absurd (none_some x e)
 
-side_long : (on : Kind → Bool) (p : Pruned) → AreLong p → (x : Text) → side_hash on p ≡ Some x → length x ≡ 32
+pub side_long : (on : Kind → Bool) (p : Pruned) → AreLong p → (x : Text) → side_hash on p ≡ Some x → length x ≡ 32
 side_long on (Hidden h) long x e = ap length (sym (same_some h x e)) ∙ long
 side_long on (Shown k d) long x e = leaf_long (on k) d x e
 side_long on (Fork l r) long x e = joined_long (side_hash on l) (side_hash on r) (side_long on l long.0) (side_long on r long.1) x e
@@ -131,7 +131,7 @@ side_long on (Fork l r) long x e = joined_long (side_hash on l) (side_hash on r)
 abbrev pub leaf_if : Bool → Text → Option Tree
 leaf_if z d = if z then Some (Tip d) else None
 
-hash_if : (z : Bool) (d : Text) → option_map hash (leaf_if z d) ≡ (if z then Some (leaf_hash d) else None)
+pub hash_if : (z : Bool) (d : Text) → option_map hash (leaf_if z d) ≡ (if z then Some (leaf_hash d) else None)
 hash_if true d = refl
 hash_if false d = refl
 
@@ -147,16 +147,16 @@ module _ (Q : Text → Type 0) (free : DoNotCollide Q) where
   AllOf None = Unit {0}
   AllOf (Some t) = All t
 
-  record AreHalves (u v : Text) (t : Tree) : Type 0 where
-    left : Tree
-    right : Tree
-    is : t ≡ Branch left right
-    low : u ≡ hash left
-    high : v ≡ hash right
-    all_left : All left
-    all_right : All right
+  pub record AreHalves (u v : Text) (t : Tree) : Type 0 where
+    pub left : Tree
+    pub right : Tree
+    pub is : t ≡ Branch left right
+    pub low : u ≡ hash left
+    pub high : v ≡ hash right
+    pub all_left : All left
+    pub all_right : All right
 
-  halves : (u v : Text) (t : Tree) → Q (node_text u v) → length u ≡ 32 → All t → node_hash u v ≡ hash t → AreHalves u v t
+  pub halves : (u v : Text) (t : Tree) → Q (node_text u v) → length u ≡ 32 → All t → node_hash u v ≡ hash t → AreHalves u v t
   halves u v (Tip d) q long all e = absurd (apart d u v (sym (free (node_text u v) (leaf_text d) q (all (leaf_text d) refl) e)))
   halves u v (Branch a b) q long all e =
       let both = halves_of u v (hash a) (hash b) long (hash_long a)

@@ -96,11 +96,11 @@ halved w n c a z ds full low high same h =
     ∙ (λ i. beside (sym (lower n (suc c) w 0 a (zeros c ds) (omega (arith, full)) (omega arith) (zeros_share c a ds low h)) i)
     (sym (lower n (suc c) w 0 z (ones c ds) (omega (arith, full)) (omega arith) (ones_share c z ds high (from_last c a z ds same h))) i))
 
-take_left : {X : Type 0} (xs ys : List X) → take (length xs) (xs ++ ys) ≡ xs
+pub take_left : {X : Type 0} (xs ys : List X) → take (length xs) (xs ++ ys) ≡ xs
 take_left [] ys = refl
 take_left (x ∷ xs) ys = ap (λ l. x ∷ l) (take_left xs ys)
 
-drop_left : {X : Type 0} (xs ys : List X) → drop (length xs) (xs ++ ys) ≡ ys
+pub drop_left : {X : Type 0} (xs ys : List X) → drop (length xs) (xs ++ ys) ≡ ys
 drop_left [] ys = refl
 drop_left (x ∷ xs) ys = drop_left xs ys
 

@@ -167,7 +167,7 @@ are_equal_swap (Some m) (Some n) h =
     let e = eqb-true m n h in
     ap (λ k. nat_eq n k) e ∙ ap (λ k. nat_eq k n) (sym e) ∙ h
 
-number_append : (w : Option Kind) (xs ys : List Part) → number w (xs ++ ys) ≡ number w xs + number w ys
+pub number_append : (w : Option Kind) (xs ys : List Part) → number w (xs ++ ys) ≡ number w xs + number w ys
 number_append w [] ys = omega arith
 number_append w (x ∷ xs) ys = by (is_of w x) (number_append w xs ys)
   where

@@ -11,6 +11,7 @@ mod OnePass
 mod Rising
 mod Showing
 mod Sorted
+mod Vouching
 pub mod Common
 pub mod Steps
 pub mod Walking

@@ -111,7 +111,7 @@ first_none [] h = refl
 first_none (None ∷ ks) h = refl
 first_none (Some k ∷ ks) h = absurd (cc)
 
-all_kept : (on : Kind → Bool) (t : Tree) (ks : Kinds) → any_shown ks ≡ false → kept on t ks ≡ Some t
+pub all_kept : (on : Kind → Bool) (t : Tree) (ks : Kinds) → any_shown ks ≡ false → kept on t ks ≡ Some t
 all_kept on (Tip d) ks h = ap (λ k. if is_on on k then Some (Tip d) else None) (first_none ks h)
 all_kept on (Branch l r) ks h =
     λ i. beside (all_kept on l (take (size l) ks) (none_taken (size l) ks h) i) (all_kept on r (drop (size l) ks) (none_left (size l) ks h) i)
@@ -227,7 +227,7 @@ last_kept on d k = by (is_on on k)
     by true = refl
     by false = refl
 
-kept_divided : (on : Kind → Bool) (n i : ℕ) (w : ℕ → Bool) (ds : List Text) (ks : Kinds) → n + i ≡ 256 → AllHave i w ds → Rises ds → length ks ≡ length ds
+pub kept_divided : (on : Kind → Bool) (n i : ℕ) (w : ℕ → Bool) (ds : List Text) (ks : Kinds) → n + i ≡ 256 → AllHave i w ds → Rises ds → length ks ≡ length ds
     → kept_of on (divided n i ds) ks ≡ divided n i (side on ds ks)
 unfolding divided
 kept_divided on zero i w [] ks full h r e = refl

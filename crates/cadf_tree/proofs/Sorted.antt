@@ -197,7 +197,7 @@ rises (d ∷ ds) f h = (all_before d ds f.0 f.1 h.0, rises ds f.1 h.1)
 
 -- ---- no two have the same bits
 
-all_kept : (P : Text → Type 0) (p : Text → Bool) (ds : List Text) → AllByRecursion P ds → AllByRecursion P (filter p ds)
+pub all_kept : (P : Text → Type 0) (p : Text → Bool) (ds : List Text) → AllByRecursion P ds → AllByRecursion P (filter p ds)
 all_kept P p [] h = tt
 all_kept P p (d ∷ ds) h = by (p d) (all_kept P p ds h.1)
   where

@@ -9,4 +9,5 @@ pub mod Presence
 pub mod PresenceMade
 pub mod Pruned
 pub mod Tree
+pub mod Vouched
 pub mod Walked

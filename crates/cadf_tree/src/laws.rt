@@ -6,6 +6,7 @@ ghost use Rattle.cadf_tree.specs.Made.{MadeIsRead, MadeHasBothRoots};
 ghost use Rattle.cadf_tree.specs.Presence.{PresenceIsSound};
 ghost use Rattle.cadf_tree.specs.PresenceMade.{PresenceIsComplete};
 ghost use Rattle.cadf_tree.specs.Tree.{IsSet, all_leaves, tree_of};
+ghost use Rattle.cadf_tree.specs.Vouched.{ChainIsVouched, LaterVouches};
 
 /// States that the leaves of a set's tree, from left to right, are its digests, ascending.
 pub fn tree_has_the_set()
@@ -44,4 +45,11 @@ pub fn presence_is_complete()
 pub fn growth_is_complete()
     ensures accepted { GrowthIsComplete }
     ensures unchanged { UnchangedIsAHash }
+{}
+
+/// States that a root that is known to be that of a set vouches for the roots before it, if nothing went and what is hashed
+/// doesn't collide: each is that of the set after it without what was added since.
+pub fn later_root_vouches()
+    ensures step { LaterVouches }
+    ensures chain { ChainIsVouched }
 {}

@@ -15,8 +15,8 @@ pub use asked::presence_of;
 pub use compared::growth_of;
 pub use growth::{Growth, TreeFault, grew};
 pub use laws::{
-    growth_is_complete, growth_is_sound, made_tree_has_both_roots, presence_is_complete,
-    presence_is_sound, tree_has_the_set,
+    growth_is_complete, growth_is_sound, later_root_vouches, made_tree_has_both_roots,
+    presence_is_complete, presence_is_sound, tree_has_the_set,
 };
 pub use listed::first_unlisted;
 pub use parts::{Kind, Part};
