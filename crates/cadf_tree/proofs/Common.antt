@@ -3,8 +3,8 @@ pub use Rattle.cadf_tree.specs.Grown.{all_beside, all_needed, are_equal, counts_
 pub use Rattle.cadf_tree.specs.GrowthLaws.{AllSideHashes, AreRising, BothAreHonest, DoNotCollide, EarlierIsHonest, GrownFrom, GrownTo, Hashes, HaveHashes, IsDifference, IsHashedBy, IsHashedFor, IsHashedForBoth, IsHashedOf, JoinedHashes, LaterIsHonest, Marked, SideHashes, TreeHashes, all_kinds, is_added, is_gone, those}
 pub use Rattle.cadf_tree.specs.GrowthMade.{GrowthIsComplete, UnchangedIsAHash, all_of, before, change_shown, compared, digests_of, from, growth_parts, is_changed, kinds_of, past, starts_changed, starts_with}
 pub use Rattle.cadf_tree.specs.Halved.{IsHalved}
-pub use Rattle.cadf_tree.specs.Listed.{first_unlisted}
-pub use Rattle.cadf_tree.specs.Made.{Kinds, MadeHasBothRoots, MadeIsRead, all_parts, any_shown, first_kind, is_on, is_shown, leaf_part, made_leaf, made_of, made_parts, preorder, side, size}
+pub use Rattle.cadf_tree.specs.Listed.{NothingGoesUnlisted, first_unlisted}
+pub use Rattle.cadf_tree.specs.Made.{Kinds, MadeHasBothRoots, MadeIsRead, MadeIsShort, all_parts, any_shown, first_kind, is_on, is_shown, leaf_part, made_leaf, made_of, made_parts, preorder, shown_in, side, size}
 unfoldable pub use Rattle.cadf_tree.specs.Made.{made}
 pub use Rattle.cadf_tree.specs.OnePass.{IsBefore, Rises, alike, extended}
 unfoldable pub use Rattle.cadf_tree.specs.OnePass.{AreApart, parting, parting_from}

@@ -7,6 +7,7 @@ mod Halving
 mod Judged
 mod Listing
 mod Making
+mod Measuring
 mod OnePass
 mod Rising
 mod Showing

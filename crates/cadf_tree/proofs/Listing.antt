@@ -1,5 +1,5 @@
 -- A binary search in digests that rise finds each that is there.
-use Rattle.cadf_tree.proofs.Common.{◌≡◌, ◌∙◌, ◌+◌, ◌<◌, ◌≤◌, ℕ, zero, suc, Bool, true, false, List, [], ◌∷◌, length, refl, ap, sym, subst, arith, ◌||◌, nat_lt, ltb-true, ltb-false, is_eq, is_lt, nat_list_cmp_total, is_eq-slice_cmp, slice_cmp, nat_cmp, ordering_reverse, Ordering, Less, Equal, Greater, Text, is_text, AreRising, member, slice_index_or, AllAdjacentBelow, HoldsAt, IsNonDecreasingBy, IsPartitionPoint, ordering_index, IsNonDecreasingBy-from_all_adjacent}
+use Rattle.cadf_tree.proofs.Common.{◌≡◌, ◌∙◌, ◌+◌, ◌<◌, ◌≤◌, ℕ, zero, suc, Bool, true, false, List, [], ◌∷◌, length, refl, ap, sym, subst, arith, ◌||◌, nat_lt, ltb-true, ltb-false, is_eq, is_lt, nat_list_cmp_total, is_eq-slice_cmp, slice_cmp, nat_cmp, ordering_reverse, Ordering, Less, Equal, Greater, Text, is_text, AreRising, member, slice_index_or, AllAdjacentBelow, HoldsAt, IsNonDecreasingBy, IsPartitionPoint, ordering_index, IsNonDecreasingBy-from_all_adjacent, first_unlisted, NothingGoesUnlisted, if◌then◌else◌, ◌⊎◌, None, Some, inl, inr, is_earlier, is_later, is_gone, those, Marked, Both, Added, Gone}
 use Rattle.cadf_tree.proofs.Judged.{same_text}
 use Rattle.cadf_tree.proofs.Showing.{IsLess, less_trans, NotIn, not_member, or_right}
 use Rattle.cadf_tree.proofs.Asking.{not_both_ways}
@@ -64,3 +64,56 @@ module _ (x : Text) where
           by : (z : Bool) → nat_lt k i ≡ z → is_text (slice_index_or ds k d) x ≡ false
           by true e = sym (is_eq-slice_cmp (slice_index_or ds k d) x) ∙ ap is_eq (point.0 k d (omega arith) (ltb-true _ _ e))
           by false e = sym (is_eq-slice_cmp (slice_index_or ds k d) x) ∙ ap is_eq (point.1 k d (ltb-false _ _ e) low)
+
+-- ---- what went is listed
+
+first_true : (a b : Bool) → a ≡ true → (a || b) ≡ true
+first_true true b h = refl
+first_true false b h = absurd (cc)
+
+-- it stayed, or went
+stayed_or_went : (d : Text) (ms : List Marked) → member d (those is_earlier ms) ≡ true → (member d (those is_later ms) ≡ true) ⊎ (member d (those is_gone ms) ≡ true)
+stayed_or_went d [] h = absurd (cc)
+stayed_or_went d ((Both, c) ∷ ms) h = by (is_text c d) h (stayed_or_went d ms)
+  where
+    kept : (z : Bool) → (member d (those is_later ms) ≡ true) ⊎ (member d (those is_gone ms) ≡ true)
+        → ((z || member d (those is_later ms)) ≡ true) ⊎ (member d (those is_gone ms) ≡ true)
+    kept z (inl m) = inl (or_right z (member d (those is_later ms)) m)
+    kept z (inr m) = inr m
+
+    by : (z : Bool) → (z || member d (those is_earlier ms)) ≡ true
+        → (member d (those is_earlier ms) ≡ true → (member d (those is_later ms) ≡ true) ⊎ (member d (those is_gone ms) ≡ true))
+        → ((z || member d (those is_later ms)) ≡ true) ⊎ (member d (those is_gone ms) ≡ true)
+    by true g f = inl refl
+    by false g f = kept false (f g)
+stayed_or_went d ((Added, c) ∷ ms) h = kept (stayed_or_went d ms h)
+  where
+    kept : (member d (those is_later ms) ≡ true) ⊎ (member d (those is_gone ms) ≡ true)
+        → ((is_text c d || member d (those is_later ms)) ≡ true) ⊎ (member d (those is_gone ms) ≡ true)
+    kept (inl m) = inl (or_right (is_text c d) (member d (those is_later ms)) m)
+    kept (inr m) = inr m
+stayed_or_went d ((Gone, c) ∷ ms) h = by (is_text c d) h (stayed_or_went d ms)
+  where
+    by : (z : Bool) → (z || member d (those is_earlier ms)) ≡ true
+        → (member d (those is_earlier ms) ≡ true → (member d (those is_later ms) ≡ true) ⊎ (member d (those is_gone ms) ≡ true))
+        → (member d (those is_later ms) ≡ true) ⊎ ((z || member d (those is_gone ms)) ≡ true)
+    by true g f = inr refl
+    by false g f = f g
+
+is_listed : (d : Text) (gs list : List Text) → first_unlisted gs list ≡ None → member d gs ≡ true → member d list ≡ true
+is_listed d [] list none h = absurd (cc)
+is_listed d (g ∷ gs) list none h = by (member g list) refl none (is_text g d) refl h (λ f. is_listed d gs list f)
+  where
+    by : (y : Bool) → member g list ≡ y → (if y then first_unlisted gs list else Some g) ≡ None → (z : Bool) → is_text g d ≡ z → (z || member d gs) ≡ true
+        → (first_unlisted gs list ≡ None → member d gs ≡ true → member d list ≡ true) → member d list ≡ true
+    by true e f true same m rest = ap (λ x. member x list) (sym (same_text g d same)) ∙ e
+    by true e f false same m rest = rest f m
+    by false e f z same m rest = absurd (cc)
+
+pub unlisted : NothingGoesUnlisted
+unlisted old new added gone list x none d h =
+    by (stayed_or_went d x.all (ap (member d) x.old_is ∙ h))
+  where
+    by : (member d (those is_later x.all) ≡ true) ⊎ (member d (those is_gone x.all) ≡ true) → (member d new || member d list) ≡ true
+    by (inl m) = first_true (member d new) (member d list) (ap (member d) (sym x.new_is) ∙ m)
+    by (inr m) = or_right (member d new) (member d list) (is_listed d gone list none (ap (member d) (sym x.gone_is) ∙ m))

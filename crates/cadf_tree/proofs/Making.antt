@@ -41,7 +41,7 @@ beside_within n None (Some t) h k = one_more_level n t k
 beside_within n (Some s) None h k = one_more_level n s h
 beside_within n (Some s) (Some t) h k = (h, k)
 
-divided_within : (n i : ℕ) (ds : List Text) → AllWithin n (divided n i ds)
+pub divided_within : (n i : ℕ) (ds : List Text) → AllWithin n (divided n i ds)
 unfolding divided
 divided_within zero i [] = tt
 divided_within zero i (d ∷ ds) = tt

@@ -7,10 +7,12 @@
 --     leaf_part d k        the part of a tree of one leaf
 --     made_parts o ks      the parts of that tree; of none no part
 --     side on ds ks        the digests of one side: those that aren't shown, and those of a kind that is on
+--     shown_in ks          how many leaves are shown
 --     MadeIsRead           the parts are read as that tree
 --     MadeHasBothRoots     each side of it has the root of the digests of that side
-use Rattle.std.specs.Prelude.{◌≡◌, ◌+◌, ℕ, Bool, true, false, if◌then◌else◌, List, [], ◌∷◌, ◌++◌, length, take, drop, Option, None, Some, option_map}
-use Rattle.std.specs.List.{list_any}
+--     MadeIsShort          there are at most two parts for each digest, and one and 512 for each leaf that is shown
+use Rattle.std.specs.Prelude.{◌≡◌, ◌≤◌, ◌+◌, ◌*◌, ℕ, Bool, true, false, if◌then◌else◌, List, [], ◌∷◌, ◌++◌, length, take, drop, Option, None, Some, option_map}
+use Rattle.std.specs.List.{filter, list_any}
 use Rattle.cadf_tree.specs.Tree.{Text, Tree, Tip, Branch, hash, leaf_hash, tree_hash, tree_of, IsSet}
 use Rattle.cadf_tree.specs.Pruned.{Pruned, Hidden, Shown, Fork, side_root, read_all}
 use Rattle.cadf_tree.specs.declared.parts.Kind.{Kind}
@@ -81,3 +83,10 @@ MadeIsRead = (ds : List Text) (ks : Kinds) → read_all (made_parts (tree_of ds)
 abbrev pub MadeHasBothRoots : Type 0
 MadeHasBothRoots = (on : Kind → Bool) (ds : List Text) (ks : Kinds) → IsSet ds → length ks ≡ length ds
     → side_root on (made_of (tree_of ds) ks) ≡ tree_hash (tree_of (side on ds ks))
+
+abbrev pub shown_in : Kinds → ℕ
+shown_in ks = length (filter is_shown ks)
+
+abbrev pub MadeIsShort : Type 0
+MadeIsShort = (ds : List Text) (ks : Kinds) → IsSet ds → length ks ≡ length ds
+    → (length (made_parts (tree_of ds) ks) ≤ 2 * length ds) × (length (made_parts (tree_of ds) ks) ≤ 1 + 512 * shown_in ks)

@@ -2,7 +2,8 @@
 ghost use Rattle.std.specs.Prelude.{◌≡◌, List, ℕ};
 ghost use Rattle.cadf_tree.specs.GrowthLaws.{EarlierIsHonest, LaterIsHonest, BothAreHonest};
 ghost use Rattle.cadf_tree.specs.GrowthMade.{GrowthIsComplete, UnchangedIsAHash};
-ghost use Rattle.cadf_tree.specs.Made.{MadeIsRead, MadeHasBothRoots};
+ghost use Rattle.cadf_tree.specs.Listed.{NothingGoesUnlisted};
+ghost use Rattle.cadf_tree.specs.Made.{MadeIsRead, MadeHasBothRoots, MadeIsShort};
 ghost use Rattle.cadf_tree.specs.Presence.{PresenceIsSound};
 ghost use Rattle.cadf_tree.specs.PresenceMade.{PresenceIsComplete};
 ghost use Rattle.cadf_tree.specs.Tree.{IsSet, all_leaves, tree_of};
@@ -52,4 +53,16 @@ pub fn growth_is_complete()
 pub fn later_root_vouches()
     ensures step { LaterVouches }
     ensures chain { ChainIsVouched }
+{}
+
+/// States that the parts that are made are at most two for each digest of the set, and at most one and 512 for each leaf that
+/// is shown, however large the set is.
+pub fn made_tree_is_short()
+    ensures { MadeIsShort }
+{}
+
+/// States that each digest of the earlier set is in the later one or in the list, if none is found that is gone and isn't in
+/// it.
+pub fn nothing_goes_unlisted()
+    ensures { NothingGoesUnlisted }
 {}

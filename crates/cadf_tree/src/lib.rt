@@ -16,7 +16,8 @@ pub use compared::growth_of;
 pub use growth::{Growth, TreeFault, grew};
 pub use laws::{
     growth_is_complete, growth_is_sound, later_root_vouches, made_tree_has_both_roots,
-    presence_is_complete, presence_is_sound, tree_has_the_set,
+    made_tree_is_short, nothing_goes_unlisted, presence_is_complete, presence_is_sound,
+    tree_has_the_set,
 };
 pub use listed::first_unlisted;
 pub use parts::{Kind, Part};
