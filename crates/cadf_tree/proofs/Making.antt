@@ -150,10 +150,6 @@ pub size_leaves : (t : Tree) → size t ≡ length (leaves t)
 size_leaves (Tip d) = refl
 size_leaves (Branch l r) = (λ i. size_leaves l i + size_leaves r i) ∙ sym (length-append (leaves l) (leaves r))
 
-take_none : (ks : Kinds) → length ks ≡ 0 → ks ≡ []
-take_none [] e = refl
-take_none (k ∷ ks) e = absurd (omega (arith, e))
-
 take_whole : (n : ℕ) (ks : Kinds) → length ks ≡ n → take n ks ≡ ks
 take_whole zero [] e = refl
 take_whole zero (k ∷ ks) e = absurd (omega (arith, e))

@@ -1,5 +1,5 @@
 -- One step of the pass over leaves, and that it ends.
-use Rattle.cadf_tree.proofs.Common.{◌≡◌, ◌∙◌, ◌+◌, ◌-◌, ◌<◌, ◌≤◌, ℕ, zero, suc, Bool, true, false, List, [], ◌∷◌, length, refl, ap, sym, subst, arith, nat_lt, if◌then◌else◌, lt-ltb, le-ltb, Text, leaf_hash, node_hash, bit, alike, parting_from, parting, extended}
+use Rattle.cadf_tree.proofs.Common.{◌≡◌, ◌∙◌, ◌+◌, ◌-◌, ◌<◌, ◌≤◌, ℕ, zero, suc, Bool, true, false, List, [], ◌∷◌, length, refl, ap, sym, subst, arith, nat_lt, if◌then◌else◌, le-ltb, Text, leaf_hash, node_hash, bit, alike, parting_from, parting, extended}
 
 pub shorter : (f : ℕ) (a h : Text) (ds : List Text) (k : ℕ) → length (extended f a h ds k).1 ≤ length ds
 shorter zero a h ds k = omega arith
@@ -38,12 +38,6 @@ fuel (suc f) (suc g) a h (d ∷ ds) k low high =
     by false same last = (λ i. extended f a (node_hash h (same i).0) (same i).1 k) ∙ last
 
 -- what follows is of another part
-pub step_stop : (a h d : Text) (ds : List Text) (k : ℕ) → parting a d < k → extended (length (d ∷ ds)) a h (d ∷ ds) k ≡ (h, d ∷ ds)
-step_stop a h d ds k low =
-    ap (λ z. if z then (h, d ∷ ds)
-    else extended (length ds) a (node_hash h (extended (length ds) d (leaf_hash d) ds (suc (parting a d))).0) (extended (length ds) d (leaf_hash d) ds (suc (parting a d))).1 k)
-    (lt-ltb _ _ low)
-
 pub step_go : (a h d : Text) (ds : List Text) (k : ℕ) (right : Text) (rest : List Text) → k ≤ parting a d
     → right ≡ (extended (length ds) d (leaf_hash d) ds (suc (parting a d))).0 → rest ≡ (extended (length ds) d (leaf_hash d) ds (suc (parting a d))).1
     → extended (length (d ∷ ds)) a h (d ∷ ds) k ≡ extended (length rest) a (node_hash h right) rest k
@@ -57,10 +51,6 @@ step_go a h d ds k right rest high e f =
 pub none_code : (a h : Text) (rest : List Text) (k : ℕ) → rest ≡ [] → (h, rest) ≡ extended (length rest) a h rest k
 none_code a h [] k e = refl
 none_code a h (d ∷ ds) k e = absurd (cc)
-
-pub stop_code : (a h d : Text) (ds rest : List Text) (k p : ℕ) → rest ≡ d ∷ ds → p ≡ parting a d → p < k → (h, rest) ≡ extended (length rest) a h rest k
-stop_code a h d ds rest k p e at low =
-    ap (λ l. (h, l)) e ∙ sym (step_stop a h d ds k (subst (λ x. x < k) at low)) ∙ ap (λ l. extended (length l) a h l k) (sym e)
 
 pub go_code : (a h d : Text) (ds rest : List Text) (k p : ℕ) (leaf node right : Text) (left : List Text) → rest ≡ d ∷ ds → p ≡ parting a d → k ≤ p → leaf ≡ leaf_hash d
     → right ≡ (extended (length ds) d leaf ds (p + 1)).0 → left ≡ (extended (length ds) d leaf ds (p + 1)).1 → node ≡ node_hash h right
