@@ -44,6 +44,7 @@ BESIDE_INPUTS = 64  # files that are open beside inputs
 OPEN_AT_LEAST = 16  # of these, in a program that opens its inputs and little else
 IN_THE_WAY = "in the way of a new file: move it away, and make the call again"
 OUT_OF_MEMORY = "out of memory"  # made once: no text is made while memory is out
+OUT_OF_TIME = "it took more processor time than it may: give more by --time"
 
 # What else a file may be, by its first bytes, and what reads it.
 OTHER_KINDS = {
@@ -623,10 +624,15 @@ def check_end(child, said, inputs):
     """Raises the Refusal of `cadf`, which has written `said` to standard error, or the Fault that it ended otherwise, if it did."""
     status = child.wait()
     if status not in (DONE, REFUSED, USAGE, FAILED, MEMORY):
-        why_ended = ": it took more processor time than it may: give more by --time" if status == -signal.SIGXCPU else ""
+        why_ended = ": " + OUT_OF_TIME if status == -signal.SIGXCPU else ""
         raise Fault("%s: ended by %s%s" % (CADF, "status %d" % status if status > 0 else "signal %d" % -status, why_ended))
     if status:
         raise refusal(said.decode("utf-8", "backslashreplace"), status, inputs)
+
+
+def is_costly(fault):
+    """Whether a program took more than it may, or more memory than there is: that says nothing of what others are run for."""
+    return fault.status == MEMORY or OUT_OF_TIME in str(fault)
 
 
 def another_program(kind, name=None):

@@ -19,8 +19,8 @@ from cadf_index import files_of
 from cadf_index_file import beside, keep, kept
 from cadf_link import ENOUGH, Item, Store
 from cadf_logs import UNREADABLE, atoms
-from cadf_toolkit import (DIFFERS, LAST, LAST_LINE, Fault, Input, Refusal, another_program, cadf, check_end, last_digest, naming, opened_file, started_cadf,
-                          with_digest)
+from cadf_toolkit import (DIFFERS, LAST, LAST_LINE, MEMORY, Fault, Input, Refusal, another_program, cadf, check_end, is_costly, last_digest, naming, opened_file,
+                          started_cadf, with_digest)
 
 ALL, SHARED = "all", cadf_site.SHARED
 UNITS = {length: unit for unit, length in cadf_site.UNITS.items()}
@@ -137,8 +137,8 @@ class FileSite:
                 yield [input]
 
 
-class Damaged(Fault):
-    """Why a file of one part can't be read or is refused, which says nothing of other parts."""
+class LeftOut(Fault):
+    """Why one part can't be read, which says nothing of others: a file of it is damaged; or by the status MEMORY, it is too costly."""
 
 
 class FolderSite:
@@ -157,26 +157,26 @@ class FolderSite:
                 continue
             key = files_of(files)
             if len(files) > 1 and key not in known:
-                with contextlib.suppress(Damaged), self.opened(part) as inputs:
+                with contextlib.suppress(LeftOut), self.opened(part) as inputs:
                     key = files_of(digest for _, digest in inputs)
                     known[key] = new[key] = union_digest(list(inputs.values())), 0, 0
-            # A damaged part is equal to none, so it is asked for, and found to be damaged.
+            # A part that can't be read is equal to none, so it is asked for, and why is found again.
             found[part] = files[0] if len(files) == 1 else known[key][0] if key in known else secrets.token_hex(32)
         keep(self.folder, UNIONS, new, [beside])
         return found
 
     @contextlib.contextmanager
     def opened(self, part):
-        """The files of a part as inputs, by part and digest. Damaged: the fault of one of them, which is found here or in the context."""
+        """The files of a part as inputs, by part and digest. LeftOut: why they can't be read, as is found here or in the context."""
         try:
             with cadf_site.opened_parts(self.folder, [part]) as (_, inputs):
                 for (_, digest), each in inputs.items():
                     check_digest(each, digest)
                 yield inputs
         except Fault as fault:
-            if not self.folder.is_of(part, fault):
+            if not is_costly(fault) and not self.folder.is_of(part, fault):
                 raise
-            raise Damaged(str(fault), fault.status) from None
+            raise LeftOut(str(fault), MEMORY if is_costly(fault) else fault.status) from None
 
     @contextlib.contextmanager
     def files(self, part, only=None):
@@ -278,7 +278,7 @@ def whole(store, part, inputs):
 def beyond(store, part, inputs, item, name):
     """An item of what a window has beyond a sketch or an inventory, `facts`; or `more` with the cells to ask for.
 
-    Damaged: a file of the window, or what was sent.
+    LeftOut: a file of the window, or what was sent, is damaged.
     """
     with item.opened_from(name) as asked:
         command = "missing-by-sketch" if item.kind == "sketch" else "missing-by"
@@ -288,7 +288,7 @@ def beyond(store, part, inputs, item, name):
         except Refusal as fault:
             if fault.said.startswith(TOO_FEW):
                 return store.put(part, "more", fault.said[len(TOO_FEW):].encode())
-            raise Damaged(str(fault), fault.status) if fault.place == len(inputs) + 1 else fault from None
+            raise LeftOut(str(fault), fault.status) if fault.place == len(inputs) + 1 else fault from None
 
 
 class Piece:

@@ -1203,6 +1203,73 @@ def test_conflicts_of_a_folder(folders, more, status, told):
         assert (answer.status, answer.output.endswith(b" received; 0 open conflicts\n")) == (0, True), answer
 
 
+COSTLY = """#!/bin/sh
+# Has no memory for such a command over files with the event e9.
+case $1 in %s) for each; do
+    case $each in /dev/fd/*) if grep -q '"e9"' $each; then echo "cadf: out of memory" >&2; exit 4; fi ;; esac
+done ;; esac
+exec %s "$@"
+"""
+
+
+def has_costly_calls(folders, command):
+    (folders.path / "costly").write_text(COSTLY % (command, shlex.quote(folders.cadf)))
+    (folders.path / "costly").chmod(0o755)
+    folders.cadf = str(folders.path / "costly")
+
+
+SHORT_OF_MEMORY = "left out 2024-03-10: %sout of memory: have more of it, or give more by --memory\n"
+# Of a window that costs too much: the command that does, what both ends have of it at first and then, and who says so.
+COSTS = {
+    "to judge there": ("split", (9,), (), (9,), (), "there/: cadf-sync: " + SHORT_OF_MEMORY % ""),
+    "to judge here": ("split", (), (9,), (), (9,), SHORT_OF_MEMORY % ""),
+    "to take there": ("missing", (37,), (9, 65), (9, 37, 65), (9, 65), "there/: cadf-sync: " + SHORT_OF_MEMORY % ""),
+    "to ask for": ("inventory", (9,), (37,), (9,), (37,), SHORT_OF_MEMORY % ""),
+    "to answer": ("missing-by", (37,), (9,), (37,), (9,), SHORT_OF_MEMORY % "there/: ")}
+
+
+@pytest.mark.parametrize("cost", COSTS)
+def test_a_window_that_costs_too_much(folders, cost):
+    """A stranger's window, for which a program at either end takes more than it may, is named and left out; no other is. The next call tries it again."""
+    command, here, there, here_then, there_then, tells = COSTS[cost]
+    right = folders.cadf
+    folders.put("here/", facts(1, *here))
+    folders.put("there/", facts(2, *there))
+    has_costly_calls(folders, command)
+    answer = folders.sync("--json", "here/", "there/")
+    assert (answer.status, said(answer), json.loads(answer.output or "{}").get("windows_left_out")) == (5, "cadf-sync: " + tells, 1), answer
+    assert folders.holds("here/") == facts(1, 2, *here_then) and folders.holds("there/") == facts(1, 2, *there_then)
+    taken = [len(facts(1, 2, *then)) - len(facts(first, *had)) for first, had, then in ((1, here, here_then), (2, there, there_then))]
+    assert [json.loads(answer.output)[name] for name in ("taken_here", "taken_there")] == taken, answer
+    folders.cadf = right
+    folders.equal("here/", "there/")
+    assert folders.holds("here/") == folders.holds("there/") == facts(1, 2, *here, *there)
+
+
+def test_pieces_of_a_window_that_costs_too_much(folders):
+    """Those that came together and cost no more than they may are taken, and no others are counted."""
+    here, there = (facts(*range(9 + 28 * first, 9 + 28 * end, 28)) for first, end in ((0, 20), (20, 60)))
+    folders.put("here/", here)
+    folders.put("there/", there)
+    has_costly_calls(folders, "missing")
+    has_shell(folders, folders.tools, "--facts=%d" % PIECE_BYTES, "there/")
+    answer = folders.sync("--json", "--push", "--rsh=./shell", "here/", "h:there/")
+    grown = folders.holds("there/") - there
+    assert (answer.status, said(answer), json.loads(answer.output)["taken_there"]) == (5, "cadf-sync: h:there/: cadf-sync: " + SHORT_OF_MEMORY % "", len(grown)), answer
+    assert facts() < grown | facts() < here and grown.isdisjoint(facts(9) - facts())
+
+
+@pytest.mark.parametrize("cost, right, wrong", [
+    ("to judge there", "if not self.is_folder() or not is_costly(fault):", "if True:"), ("to judge there", "            self.costly |= costly\n", ""),
+    ("to judge here", "return items[:len(items) // 2], items[len(items) // 2:]", "return items[:len(items) // 2], ()"),
+    ("to take there", "for half in self.halves(group, fault) for each", "for half in () for each"), (None, "self.counted = None  # of", "pass  # of"),
+    ("to ask for", "if not is_costly(fault) and not self.", "if not self."), ("to answer", 'self.costly if fault.status == MEMORY else', 'self.left if True else')])
+def test_exchanges_that_a_costly_window_ends_are_caught(tmp_path, cadf, cost, right, wrong):
+    folders = Folders(tmp_path, cadf, copied(str(tmp_path / "tools"), *TRIED, right, wrong))
+    with pytest.raises(AssertionError):
+        test_a_window_that_costs_too_much(folders, cost) if cost else test_pieces_of_a_window_that_costs_too_much(folders)
+
+
 def test_metrics_of_more_windows_than_files_may_be_open(folders):
     """What an exchange can do is counted too: 28 windows and what is of no time, and 100 files."""
     for name in ("here/", "there/"):
