@@ -107,6 +107,45 @@ def test_each_site_gives_the_same_answer(cadf, tmp_path, seed):
     assert sorted(name for name in os.listdir(tmp_path / "site") if not name.endswith(".cadf")) == [".index", "site"]
 
 
+def miscounts(cadf, folder, seed, tools=TOOLS):
+    """The first call that says of its first lines another number of open keys than those that it has passed; or None."""
+    chance = random.Random(seed)
+    atoms = facts(chance, 40)
+    (folder / "file").write_bytes(file_of(LOG, atoms))
+    site = folder_of(folder / "site", atoms, ("month", "day", "hour")[seed % 3], chance)
+    for way in "mark", "hide", "only":
+        most, order = chance.randrange(1, 8), chance.choice([[], ["--reverse"]])
+        passed, written = set(), []
+        every = wanted(atoms, [], "only" if way == "only" else "mark")[0]
+        for line, each, count in every[::-1] if order else every:
+            passed |= {each["id"]} if count else set()
+            written += [] if count and way == "hide" else [line]
+            if len(written) == most:
+                break
+        for each in [site], [site, "--no-index"], [folder / "file"]:
+            answer = ask(cadf, "--contradicted", way, "-n", most, *order, "--format", "jsonl", *each, tools=tools)
+            is_right = answer.output.decode() == "".join(written) and answer.status == (5 if passed else 0)
+            if not is_right or answer.error.decode().count(": %d; %s" % (len(passed), OPEN)) != bool(passed):
+                return way, most, order, each, answer, len(passed)
+    return None
+
+
+@pytest.mark.parametrize("seed", range(3))
+def test_the_first_lines_count_what_they_pass(cadf, tmp_path, seed):
+    """With -n the number of open keys is of those up to the last line, whatever else was read."""
+    assert miscounts(cadf, tmp_path, seed) is None
+
+
+@pytest.mark.parametrize("right, wrong", [("self.open += is_first", "self.open += bool(bodies)"), ("sorted(answering, reverse=self.is_reversed)", "sorted(answering)")])
+def test_wrong_counts_are_caught(cadf, tmp_path, right, wrong):
+    tools = copied(tmp_path / "copy", right, wrong)
+    for seed in range(8):
+        (tmp_path / str(seed)).mkdir()
+        if miscounts(cadf, tmp_path / str(seed), seed, tools):
+            return
+    raise AssertionError("not caught")
+
+
 @pytest.mark.parametrize("right, wrong", [
     ("{key: places[key] for key in keys & places.keys()}", "{}"), ("if key in self.apart}", "if key not in self.apart}"),
     ("not self.open.isdisjoint(parts)", "False"), ("self.ruled_in.setdefault(*parts, []).append(key)", "pass"), ('"ruled" not in conflict and ', ""),
