@@ -16,14 +16,20 @@ from tests.command import vectors
 from tests.generated.compare import alike, answered
 from tests.generated.generate import Case
 from tests.library.declarations import HEADERS, PYTHON, STRICT, declared
-from tests.machine import said, side_by_side
+from tests.machine import ended, put, said, side_by_side
 from tests.reference.command import DIRECTORY, Answer, Call, Usage
+from tests.reference.events import document
+from tests.reference.replica_files import file_of
+from tests.reference.rulings import digest_of_value
+from tests.reference.shown_texts import log_text
+from tests.tools.odd_logs import EVENT
 
 pytestmark = [pytest.mark.xdist_group("bindings"), pytest.mark.timeout(3600), pytest.mark.needs("gcc")]
 
 SECONDS = 300  # that a program may take
 GENERATED, SEED = 500, 1
 REFUSED = ["-DREFUSES", "-Wl,--wrap=malloc,--wrap=realloc,--wrap=free"]
+EXAMPLES = os.path.join(TOP, "examples", "library")
 SANITIZED = ["-fsanitize=address,undefined", "-fno-sanitize-recover=all"]
 
 
@@ -191,6 +197,54 @@ def test_example(prefix):
         told = ran(python, os.path.join(TOP, "examples", "in-process.py"), env=environment(prefix)) if os.path.exists(python) else ""
     if "is not here" in told:
         pytest.skip("pycadf isn't there (Debian: python3-pycadf)")
+
+
+@pytest.fixture(scope="module")
+def examples(prefix, tmp_path_factory):
+    """The programs in C of examples/library, by their names."""
+    folder = str(tmp_path_factory.mktemp("examples"))
+    return {name: compiled(prefix, folder, name, os.path.join(EXAMPLES, name + ".c")) for name in ("events", "join", "proof")}
+
+
+def vector(name):
+    return os.path.join(TOP, "examples", "vectors", name)
+
+
+def test_example_of_events(examples, tmp_path):
+    """The events in C: of each hour between the times its log, with what has no time, as a ruling."""
+    facts = [("e1", "2024-03-01T11:59:59Z", "a"), ("e2", "2024-03-01T12:00:00Z", "a"), ("e2", "2024-03-01T12:00:00Z", "b"), ("e3", "2024-03-01T13:00:00Z", "a")]
+    events = [{**EVENT, "id": key, "eventTime": at, "action": action} for key, at, action in facts]
+    for properties in ({}, {"name": "n"}):
+        atoms = document({"id": "g", "events": events, **properties})[1]
+        value, = (atom[2] for atom in atoms if len(atom) == 3 and '"action":"b"' in atom[2])
+        for more in (set(), {("U", "E", "e2", digest_of_value(value))}):
+            put(tmp_path, "site", file_of("g", atoms | more))
+            windows = [{atom for atom in atoms if not (atom[0] == "E" and atom[1] != key)} | more for key in ("e2", "e3")]
+            with open(tmp_path / "site", "rb") as site:
+                done = ended(examples["events"], ["2024-03-01T12", "2024-03-02"], stdin=site)
+            assert (done.status, done.output) == (0, b"".join(log_text("g", each) for each in windows))
+
+
+def test_example_of_two_sites(examples):
+    names = [vector("both.cadf"), vector("north.json")]
+    for each in (names, names[::-1]):
+        assert ran(examples["join"], *each).encode() == read_vector("both.cadf")
+    assert said(examples["join"], vector("both.cadf"), vector("cut.json")) == (1, "input 2: not JSON")
+
+
+def read_vector(name):
+    with open(vector(name), "rb") as file:
+        return file.read()
+
+
+@pytest.mark.parametrize("language", ["c", "py"])
+def test_example_of_a_proof(prefix, examples, language):
+    """In C and in Python it says what is shown, and what isn't."""
+    program = [examples["proof"]] if language == "c" else [sys.executable, os.path.join(EXAMPLES, "proof.py")]
+    shown = said(*program, *map(vector, ("size-8.seal", "size-1.json", "there.proof")), env=environment(prefix))
+    assert shown == (0, read_vector("there.verified.txt").decode())
+    status, told = said(*program, *map(vector, ("size-8.seal", "asked.json", "size-8.proof")), env=environment(prefix))
+    assert status == 1 and "fact 2: absent" in told
 
 
 # ---- beside the command

@@ -7,13 +7,15 @@ import os
 import pathlib
 import pickle
 import re
+import shutil
 import subprocess
 import sys
 
 import pytest
 
 from tests import TOP, text_of
-import tests.library.declarations  # which has the package be found
+from tests.library.declarations import HEADERS, PYTHON, STRICT  # which has the package be found
+from tests.machine import ended
 from tests.reference.events import EVENT_URI, document as atoms_of
 from tests.reference.json_text import spelled
 from tests.reference.rulings import digest_of_value
@@ -29,6 +31,7 @@ import cadf_question
 pytestmark = pytest.mark.filterwarnings("ignore::cadf.CadfWarning")  # those that a test expects are seen nevertheless
 
 LOG = "audit"
+EXAMPLES = os.path.join(TOP, "examples", "library")
 HOSTILE = '<script>alert(1)</script>\u202e"&'
 SLOW = "#!/bin/sh\necho $$ >%s\necho '{\"id\":\"e\"}'\nexec sleep 60\n"
 
@@ -313,7 +316,37 @@ def test_table_of_conflicts():
         ["state", "letter", "key", "values"], ["open", "E", "e2", "2"], ["open", "P", "name", "2"]]
 
 
-# ---- Pages
+# ---- Examples and pages
+
+def example(name, *words):
+    done = ended(sys.executable, [os.path.join(EXAMPLES, name), *words], env={**os.environ, "PYTHONPATH": PYTHON, "PYTHONWARNINGS": "ignore"})
+    return done.status, done.output.decode(), done.error.decode()
+
+
+def test_example_of_events():
+    made("north/", *DAYS)
+    assert example("events.py", "north/", "2024-03-01", "2024-03-03") == (0, "".join(line + "\n" for line in (
+        *["2024-03-01T12:00:00Z create success e2 (one of 2 bodies that contradict)"] * 2, "2024-03-02T08:00:00+01:00 read failure e3")), "")
+    assert example("events.py", "absent", "2024-03-01", "2024-03-03")[::2] == (1, "events: absent: No such file or directory\n")
+
+
+def test_example_of_two_sites():
+    """Each has what both have."""
+    for name, documents in (("north", DAYS), ("south", [document(event("e1", outcome="failure"))])):
+        made(name, *documents, by=None)
+    assert example("join.py", "north", "south") == (0, "open E e1 2\nopen E e2 2\n", "")
+    with open("north", "rb") as north, open("south", "rb") as south:
+        assert north.read() == south.read()
+
+
+@pytest.mark.parametrize("name", sorted(os.listdir(EXAMPLES)))
+def test_examples_are_short(name, tmp_path):
+    """At most thirty lines. Those in C are compiled without a warning."""
+    assert text_of("examples", "library", name).count("\n") <= 30
+    if name.endswith(".c") and shutil.which("gcc"):
+        subprocess.run(["gcc", *STRICT, "-I", HEADERS, "-c", os.path.join(EXAMPLES, name), "-o", tmp_path / "made"], check=True)
+
+
 
 def test_examples_of_the_docstrings():
     made("south/", document(event("e1"), event("e2", action="create"), event("e3", initiatorId="x")))
