@@ -1,7 +1,7 @@
 -- What the proofs of this crate take from outside. Written by tests/proofs/imports.py.
 pub use Rattle.cadf_tree.specs.Grown.{all_beside, all_needed, are_equal, counts_agree, fault_unless, first_changed, fits, growth_unless, has_changed, has_spare, hidden_leaves, is_seen, is_text, may_hide, order_fault, rise, roots_fault, sides, sides_fault, tree_fault, verdict}
 pub use Rattle.cadf_tree.specs.GrowthLaws.{AllSideHashes, AreRising, BothAreHonest, DoNotCollide, EarlierIsHonest, GrownFrom, GrownTo, Hashes, HaveHashes, IsDifference, IsHashedBy, IsHashedFor, IsHashedForBoth, IsHashedOf, JoinedHashes, LaterIsHonest, Marked, SideHashes, TreeHashes, all_kinds, is_added, is_gone, those}
-pub use Rattle.cadf_tree.specs.GrowthMade.{GrowthIsComplete, UnchangedIsAHash, all_of, before, change_shown, compared, digests_of, from, growth_parts, is_changed, kinds_of, past, starts_changed, starts_with}
+pub use Rattle.cadf_tree.specs.GrowthMade.{GrowthIsComplete, GrowthIsShort, UnchangedIsAHash, all_of, before, change_shown, compared, digests_of, from, growth_parts, is_changed, kinds_of, past, starts_changed, starts_with}
 pub use Rattle.cadf_tree.specs.Halved.{IsHalved}
 pub use Rattle.cadf_tree.specs.Listed.{NothingGoesUnlisted, first_unlisted}
 pub use Rattle.cadf_tree.specs.Made.{Kinds, MadeHasBothRoots, MadeIsRead, MadeIsShort, all_parts, any_shown, first_kind, is_on, is_shown, leaf_part, made_leaf, made_of, made_parts, preorder, shown_in, side, size}
@@ -9,7 +9,7 @@ unfoldable pub use Rattle.cadf_tree.specs.Made.{made}
 pub use Rattle.cadf_tree.specs.OnePass.{IsBefore, Rises, alike, extended}
 unfoldable pub use Rattle.cadf_tree.specs.OnePass.{AreApart, parting, parting_from}
 pub use Rattle.cadf_tree.specs.Presence.{PresenceIsSound, all_asked, first_part, is_absent, is_ahead, is_past, is_present, member, needs, shown, state}
-pub use Rattle.cadf_tree.specs.PresenceMade.{PresenceIsComplete, above, asked_kinds, first_digest, is_above, is_below, is_between, kind_if, presence_parts, starts_below, walked_kinds}
+pub use Rattle.cadf_tree.specs.PresenceMade.{PresenceIsComplete, PresenceIsShort, above, asked_kinds, first_digest, is_above, is_below, is_between, kind_if, presence_parts, starts_below, walked_kinds}
 pub use Rattle.cadf_tree.specs.Pruned.{Fork, Hidden, Pruned, Read, Shown, beside_read, both_read, is_earlier, is_hidden, is_later, is_of, is_spare, items, joined, leaves_of, number, read, read_all, side_hash, side_root, summaries, whole}
 pub use Rattle.cadf_tree.specs.Tree.{Branch, IsDigest, IsSet, Text, Tip, Tree, all_leaves, beside, hash, leaf_hash, leaf_text, leaves, less, node_hash, node_text, ones, root, root_hash, root_text, tree_hash, zeros}
 unfoldable pub use Rattle.cadf_tree.specs.Tree.{bit, divided, tree_of}

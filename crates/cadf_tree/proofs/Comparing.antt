@@ -361,6 +361,25 @@ number_leaves k (Leaf l d ∷ ps) = by (is_of (Some k) (Leaf l d)) (number_leave
 
 -- ---- what is made is accepted
 
+module _ (old new : List Text) (a : IsSet old) (b : IsSet new) where
+  abbrev pub all_marked : List Marked
+  all_marked = compared old new
+
+  abbrev pub all_shown : Kinds
+  all_shown = change_shown false (kinds_of all_marked)
+
+  pub cells_of : AreCelled (digests_of all_marked) all_shown
+  cells_of = set_celled (digests_of all_marked) all_shown (union_set old new a b) (shown_length false all_marked)
+
+  grown_cells : IsGrown false all_marked cells_of.cells
+  grown_cells = record { leaves = cells_of.leaves; kinds = cells_of.kinds }
+
+  pub parts_added : leaves_of Added (growth_parts old new) ≡ those is_added all_marked
+  parts_added = leaves_items Added (growth_parts old new) ∙ ap (leaves_of Added) cells_of.its_items ∙ its_added false cells_of.cells all_marked grown_cells
+
+  pub parts_gone : leaves_of Gone (growth_parts old new) ≡ those is_gone all_marked
+  parts_gone = leaves_items Gone (growth_parts old new) ∙ ap (leaves_of Gone) cells_of.its_items ∙ its_gone false cells_of.cells all_marked grown_cells
+
 pub complete : GrowthIsComplete
 complete old new a b = record {
   difference = record {
@@ -368,8 +387,8 @@ complete old new a b = record {
     rising = sorted_rising ds set.rising;
     old_is = earlier_is old new;
     new_is = later_is old new;
-    added_is = sym (leaves_items Added ps ∙ ap (leaves_of Added) x.its_items ∙ its_added false x.cells ms grown);
-    gone_is = sym (leaves_items Gone ps ∙ ap (leaves_of Gone) x.its_items ∙ its_gone false x.cells ms grown);
+    added_is = sym (parts_added old new a b);
+    gone_is = sym (parts_gone old new a b);
   };
   accepted =
       ap (λ o. growth_unless o ps)
@@ -398,7 +417,7 @@ complete old new a b = record {
     same = shown_length false ms
 
     x : AreCelled ds ks
-    x = set_celled ds ks set same
+    x = cells_of old new a b
 
     grown : IsGrown false ms x.cells
     grown = record { leaves = x.leaves; kinds = x.kinds }

@@ -8,8 +8,9 @@
 --     change_shown before ks each is shown if it changed or is beside one that changed; before: the one before these changed
 --     growth_parts old new   the parts that show how the set new came of the set old
 --     IsShownGrowth, GrowthIsComplete   they are accepted under the roots of both sets, and show their difference
+--     GrowthIsShort          there are at most one of them and 1536 for each digest that was added or is gone
 --     UnchangedIsAHash       of a set that didn't change they are its tree's hash, and of no digests no part
-use Rattle.std.specs.Prelude.{◌≡◌, Bool, true, false, ◌||◌, if◌then◌else◌, List, [], ◌∷◌, ◌++◌, length, Option, None, Some, Ok}
+use Rattle.std.specs.Prelude.{◌≡◌, ◌≤◌, ◌+◌, ◌*◌, ℕ, Bool, true, false, ◌||◌, if◌then◌else◌, List, [], ◌∷◌, ◌++◌, length, Option, None, Some, Ok}
 use Rattle.cadf_tree.specs.Tree.{Text, tree_hash, tree_of, root, less, IsSet}
 use Rattle.cadf_tree.specs.Pruned.{leaves_of}
 use Rattle.cadf_tree.specs.Grown.{is_text, verdict}
@@ -87,3 +88,9 @@ hash_part (d ∷ ds) = Hash (tree_hash (tree_of (d ∷ ds))) ∷ []
 
 abbrev pub UnchangedIsAHash : Type 0
 UnchangedIsAHash = (ds : List Text) → IsSet ds → growth_parts ds ds ≡ hash_part ds
+
+abbrev pub changes_in : List Part → ℕ
+changes_in ps = length (leaves_of Added ps) + length (leaves_of Gone ps)
+
+abbrev pub GrowthIsShort : Type 0
+GrowthIsShort = (old new : List Text) → IsSet old → IsSet new → length (growth_parts old new) ≤ 1 + 1536 * changes_in (growth_parts old new)

@@ -9,7 +9,8 @@
 --     walked_kinds ds fs        the same of fs that rise, in one pass over both
 --     presence_parts ds fs      the parts that show of each of fs whether it is in the set ds
 --     PresenceIsComplete        they are accepted under the set's root, for what is asked, and show the state of each digest that is asked for
-use Rattle.std.specs.Prelude.{◌≡◌, Bool, true, false, ◌&&◌, if◌then◌else◌, List, [], ◌∷◌, Option, None, Some}
+--     PresenceIsShort           there are at most one of them and 1024 for each digest that is asked for
+use Rattle.std.specs.Prelude.{◌≡◌, ◌≤◌, ◌+◌, ◌*◌, Bool, true, false, ◌&&◌, if◌then◌else◌, List, [], ◌∷◌, length, Option, None, Some}
 use Rattle.std.specs.List.{list_any}
 use Rattle.cadf_tree.specs.Tree.{Text, tree_of, root, less, IsSet}
 use Rattle.cadf_tree.specs.Made.{Kinds, made_parts}
@@ -65,3 +66,6 @@ pub record ShowsPresence (ds fs : List Text) : Type 0 where
 
 abbrev pub PresenceIsComplete : Type 0
 PresenceIsComplete = (ds fs : List Text) → IsSet ds → ShowsPresence ds fs
+
+abbrev pub PresenceIsShort : Type 0
+PresenceIsShort = (ds fs : List Text) → IsSet ds → length (presence_parts ds fs) ≤ 1 + 1024 * length fs

@@ -1,11 +1,11 @@
 //! Laws over the definitions alone. Each function's contract is a theorem, and its body is empty.
 ghost use Rattle.std.specs.Prelude.{◌≡◌, List, ℕ};
 ghost use Rattle.cadf_tree.specs.GrowthLaws.{EarlierIsHonest, LaterIsHonest, BothAreHonest};
-ghost use Rattle.cadf_tree.specs.GrowthMade.{GrowthIsComplete, UnchangedIsAHash};
+ghost use Rattle.cadf_tree.specs.GrowthMade.{GrowthIsComplete, GrowthIsShort, UnchangedIsAHash};
 ghost use Rattle.cadf_tree.specs.Listed.{NothingGoesUnlisted};
 ghost use Rattle.cadf_tree.specs.Made.{MadeIsRead, MadeHasBothRoots, MadeIsShort};
 ghost use Rattle.cadf_tree.specs.Presence.{PresenceIsSound};
-ghost use Rattle.cadf_tree.specs.PresenceMade.{PresenceIsComplete};
+ghost use Rattle.cadf_tree.specs.PresenceMade.{PresenceIsComplete, PresenceIsShort};
 ghost use Rattle.cadf_tree.specs.Tree.{IsSet, all_leaves, tree_of};
 ghost use Rattle.cadf_tree.specs.Vouched.{ChainIsVouched, LaterVouches};
 
@@ -55,10 +55,12 @@ pub fn later_root_vouches()
     ensures chain { ChainIsVouched }
 {}
 
-/// States that the parts that are made are at most two for each digest of the set, and at most one and 512 for each leaf that
-/// is shown, however large the set is.
+/// States that the parts that are made are at most two for each digest of the set, and, however large the set is, at most one
+/// and 512 for each leaf that is shown: 1,024 for each digest that is asked for, 1,536 for each that was added or is gone.
 pub fn made_tree_is_short()
-    ensures { MadeIsShort }
+    ensures tree { MadeIsShort }
+    ensures presence { PresenceIsShort }
+    ensures growth { GrowthIsShort }
 {}
 
 /// States that each digest of the earlier set is in the later one or in the list, if none is found that is gone and isn't in
