@@ -1,5 +1,5 @@
 -- The parts that are made for some digests show the state of each, and each leaf among them is needed.
-use Rattle.cadf_tree.proofs.Common.{above, starts_below, walked_kinds, IsSet, ◌≡◌, ◌∙◌, ◌++◌, suc, Bool, true, false, List, [], ◌∷◌, Option, None, Some, length, drop, refl, ap, sym, subst, ◌&&◌, ◌||◌, if◌then◌else◌, is_lt, is_eq, nat_list_cmp_total, is_eq-slice_cmp, slice_cmp, nat_cmp, Ordering, Less, Equal, Greater, list_any, Text, less, root, items, is_earlier, is_later, is_text, all_beside, is_seen, fault_unless, tree_fault, AreRising, Kinds, first_kind, side, is_past, is_present, is_absent, needs, first_part, all_asked, member, NotNeeded, Kind, Both, Added, Gone, Part, Hash, Leaf, ordering_reverse, is_ahead, state, shown, first_digest, is_above, is_below, is_between, kind_if, asked_kinds, presence_parts, PresenceIsComplete}
+use Rattle.cadf_tree.proofs.Common.{above, starts_below, walked_kinds, IsSet, ◌≡◌, ◌∙◌, ◌++◌, suc, Bool, true, false, List, [], ◌∷◌, Option, None, Some, length, drop, refl, ap, sym, subst, ◌&&◌, ◌||◌, if◌then◌else◌, is_lt, is_eq, nat_list_cmp_total, is_eq-slice_cmp, slice_cmp, nat_cmp, Ordering, Less, Equal, Greater, list_any, Text, less, root, items, is_earlier, is_later, is_text, all_beside, is_seen, fault_unless, tree_fault, AreRising, Kinds, first_kind, side, is_past, is_present, is_absent, needs, first_part, all_asked, member, NotNeeded, Kind, Both, Added, Gone, Part, Hash, Leaf, ordering_reverse, is_ahead, first_digest, is_above, is_below, is_between, kind_if, asked_kinds, presence_parts, PresenceIsComplete}
 use Rattle.cadf_tree.proofs.Filling.{Cell, Block, One, cell_items, side_leaves}
 use Rattle.cadf_tree.proofs.Judged.{same_text}
 use Rattle.cadf_tree.proofs.Rising.{and_left, and_right, false_true, rest_rising}

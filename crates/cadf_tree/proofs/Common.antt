@@ -8,7 +8,7 @@ pub use Rattle.cadf_tree.specs.Made.{Kinds, MadeHasBothRoots, MadeIsRead, MadeIs
 unfoldable pub use Rattle.cadf_tree.specs.Made.{made}
 pub use Rattle.cadf_tree.specs.OnePass.{IsBefore, Rises, alike, extended}
 unfoldable pub use Rattle.cadf_tree.specs.OnePass.{AreApart, parting, parting_from}
-pub use Rattle.cadf_tree.specs.Presence.{PresenceIsSound, all_asked, first_part, is_absent, is_ahead, is_past, is_present, member, needs, shown, state}
+pub use Rattle.cadf_tree.specs.Presence.{PresenceIsSound, all_asked, first_part, is_absent, is_ahead, is_past, is_present, member, needs}
 pub use Rattle.cadf_tree.specs.PresenceMade.{PresenceIsComplete, PresenceIsShort, above, asked_kinds, first_digest, is_above, is_below, is_between, kind_if, presence_parts, starts_below, walked_kinds}
 pub use Rattle.cadf_tree.specs.Pruned.{Fork, Hidden, Pruned, Read, Shown, beside_read, both_read, is_earlier, is_hidden, is_later, is_of, is_spare, items, joined, leaves_of, number, read, read_all, side_hash, side_root, summaries, whole}
 pub use Rattle.cadf_tree.specs.Tree.{Branch, IsDigest, IsSet, Text, Tip, Tree, all_leaves, beside, hash, leaf_hash, leaf_text, leaves, less, node_hash, node_text, ones, root, root_hash, root_text, tree_hash, zeros}

@@ -1,5 +1,5 @@
 -- The digests of two sets, each with its kind, and the parts that are made of them.
-use Rattle.cadf_tree.proofs.Common.{◌≡◌, ◌∙◌, ◌+◌, ◌++◌, suc, Bool, true, false, List, [], ◌∷◌, Option, None, Some, length, drop, refl, ap, sym, subst, arith, ◌&&◌, ◌||◌, not, if◌then◌else◌, AllByRecursion, IsStrictlySortedBy, slice_cmp, nat_cmp, Less, Ok, filter, Text, less, tree_of, root, IsDigest, IsSet, items, is_earlier, is_later, is_of, number, leaves_of, is_text, all_beside, is_seen, has_changed, first_changed, all_needed, fault_unless, growth_unless, tree_fault, Marked, those, all_kinds, is_added, is_gone, AreRising, Kinds, any_shown, side, made_parts, NotNeeded, Kind, Both, Added, Gone, Part, Node, Hash, Leaf, all_of, before, from, starts_with, past, compared, digests_of, kinds_of, is_changed, starts_changed, change_shown, growth_parts, GrowthIsComplete, UnchangedIsAHash}
+use Rattle.cadf_tree.proofs.Common.{◌≡◌, ◌∙◌, ◌++◌, suc, Bool, true, false, List, [], ◌∷◌, Option, None, Some, length, drop, refl, ap, sym, subst, arith, ◌&&◌, ◌||◌, not, if◌then◌else◌, AllByRecursion, IsStrictlySortedBy, slice_cmp, nat_cmp, Less, Ok, filter, Text, less, tree_of, root, IsDigest, IsSet, items, is_earlier, is_later, is_of, number, leaves_of, is_text, all_beside, is_seen, has_changed, first_changed, all_needed, fault_unless, growth_unless, tree_fault, Marked, those, all_kinds, is_added, is_gone, AreRising, Kinds, any_shown, side, made_parts, NotNeeded, Kind, Both, Added, Gone, Part, Node, Hash, Leaf, all_of, before, from, starts_with, past, compared, digests_of, kinds_of, is_changed, starts_changed, change_shown, growth_parts, GrowthIsComplete, UnchangedIsAHash}
 use Rattle.cadf_tree.proofs.Filling.{Cell, Block, One, cell_items, those_append}
 use Rattle.cadf_tree.proofs.Sorted.{set_rises}
 use Rattle.cadf_tree.proofs.Halving.{hidden_parts}

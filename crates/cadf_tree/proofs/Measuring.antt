@@ -1,5 +1,5 @@
 -- How many parts are made, and for what is asked and what changed.
-use Rattle.cadf_tree.proofs.Common.{◌≡◌, ◌∙◌, ◌+◌, ◌*◌, ◌≤◌, ◌<◌, ◌++◌, ℕ, zero, suc, Bool, true, false, List, [], ◌∷◌, Option, None, Some, length, take, drop, refl, ap, sym, arith, take-append-drop, length-append, ◌||◌, if◌then◌else◌, filter, Text, Tree, Tip, Branch, hash, all_leaves, divided, tree_of, Hidden, Fork, Kinds, is_shown, any_shown, size, made, made_leaf, first_kind, preorder, made_parts, Kind, filter-append, shown_in, MadeIsShort, is_between, is_below, is_above, first_digest, kind_if, asked_kinds, PresenceIsShort, compared, change_shown, digests_of, kinds_of, starts_changed, GrowthIsShort, AreRising, Marked, those, is_added, is_gone, less, ◌&&◌, list_any, Both, Added, Gone}
+use Rattle.cadf_tree.proofs.Common.{◌≡◌, ◌∙◌, ◌+◌, ◌*◌, ◌≤◌, ℕ, zero, suc, Bool, true, false, List, [], ◌∷◌, Option, None, Some, length, take, drop, refl, ap, sym, arith, take-append-drop, length-append, ◌||◌, if◌then◌else◌, filter, Text, Tree, Tip, Branch, hash, all_leaves, divided, tree_of, Hidden, Fork, Kinds, is_shown, any_shown, size, made, made_leaf, first_kind, preorder, made_parts, Kind, filter-append, shown_in, MadeIsShort, is_between, is_below, is_above, first_digest, kind_if, asked_kinds, PresenceIsShort, compared, change_shown, digests_of, kinds_of, starts_changed, GrowthIsShort, AreRising, Marked, those, is_added, is_gone, less, ◌&&◌, list_any, Both, Added, Gone}
 use Rattle.cadf_tree.proofs.Rising.{false_true}
 use Rattle.cadf_tree.proofs.Showing.{IsLess, less_trans}
 use Rattle.cadf_tree.proofs.Asking.{kinds_length, not_both_ways}

@@ -1,5 +1,5 @@
 -- Where no leaf went, the earlier root is that of the later set without what was added.
-use Rattle.cadf_tree.proofs.Common.{◌≡◌, ◌∙◌, ◌+◌, ◌-◌, ◌++◌, ℕ, suc, Bool, true, false, cond, List, [], ◌∷◌, Option, None, Some, length, take, drop, refl, ap, sym, subst, arith, append-nil, inl, inr, ◌⊎◌, ◌||◌, not, nat_lt, if◌then◌else◌, option_map, unwrap_or, Ok, ltb-false, eqb-true, AllByRecursion, slice_cmp, nat_cmp, sha256, Text, Tree, Tip, Branch, leaf_text, node_text, leaf_hash, node_hash, hash, leaves, tree_hash, all_leaves, beside, tree_of, root, root_hash, IsSet, IsDigest, Pruned, Hidden, Shown, Fork, items, is_earlier, is_later, joined, side_hash, side_root, number, leaves_of, may_hide, hidden_leaves, are_equal, counts_agree, growth_unless, DoNotCollide, SideHashes, AllSideHashes, JoinedHashes, IsHashedOf, HaveHashes, Marked, those, all_kinds, is_added, AreRising, Kinds, any_shown, size, side, member, Root, Growth, TreeFault, Kind, Both, Added, Gone, Part, without, IsVouched, IsHashedForLater, LaterVouches, AreSteps, ChainIsVouched, Result, IsStrictlySortedBy-filter}
+use Rattle.cadf_tree.proofs.Common.{◌≡◌, ◌∙◌, ◌+◌, ◌-◌, ◌++◌, ℕ, suc, Bool, true, false, cond, List, [], ◌∷◌, Option, None, Some, length, take, drop, refl, ap, sym, subst, arith, append-nil, inl, inr, ◌||◌, not, nat_lt, if◌then◌else◌, option_map, unwrap_or, Ok, ltb-false, eqb-true, AllByRecursion, slice_cmp, nat_cmp, sha256, Text, Tree, Tip, Branch, leaf_text, node_text, leaf_hash, node_hash, hash, leaves, tree_hash, all_leaves, beside, tree_of, root, root_hash, IsSet, IsDigest, Pruned, Hidden, Shown, Fork, items, is_earlier, is_later, joined, side_hash, side_root, number, leaves_of, may_hide, hidden_leaves, are_equal, counts_agree, growth_unless, DoNotCollide, SideHashes, AllSideHashes, JoinedHashes, IsHashedOf, HaveHashes, Marked, those, all_kinds, is_added, AreRising, Kinds, any_shown, size, side, member, Root, Growth, TreeFault, Kind, Both, Added, Gone, Part, without, IsVouched, IsHashedForLater, LaterVouches, AreSteps, ChainIsVouched, Result, IsStrictlySortedBy-filter}
 use Rattle.cadf_tree.proofs.Sorted.{none_have, set_rises, leaves_are, all_kept}
 use Rattle.cadf_tree.proofs.Filling.{Cell, Block, One, cell_items, shown_items, side_leaves, items_append, side_append, some_leaf, marked, those_marked, AreLong, All, AllOf, apart, side_long, hash_if, same_some, none_some, beside_hash, AreHalves, halves, not_none}
 use Rattle.cadf_tree.proofs.Making.{kept, kept_of, kept_divided, size_leaves}

@@ -10,13 +10,12 @@
 --     IsShownGrowth, GrowthIsComplete   they are accepted under the roots of both sets, and show their difference
 --     GrowthIsShort          there are at most one of them and 1536 for each digest that was added or is gone
 --     UnchangedIsAHash       of a set that didn't change they are its tree's hash, and of no digests no part
-use Rattle.std.specs.Prelude.{◌≡◌, ◌≤◌, ◌+◌, ◌*◌, ℕ, Bool, true, false, ◌||◌, if◌then◌else◌, List, [], ◌∷◌, ◌++◌, length, Option, None, Some, Ok}
+use Rattle.std.specs.Prelude.{◌≡◌, ◌≤◌, ◌+◌, ◌*◌, ℕ, Bool, true, false, ◌||◌, if◌then◌else◌, List, [], ◌∷◌, ◌++◌, length, None, Some, Ok}
 use Rattle.cadf_tree.specs.Tree.{Text, tree_hash, tree_of, root, less, IsSet}
 use Rattle.cadf_tree.specs.Pruned.{leaves_of}
 use Rattle.cadf_tree.specs.Grown.{is_text, verdict}
 use Rattle.cadf_tree.specs.GrowthLaws.{Marked, IsDifference, all_kinds, those}
 use Rattle.cadf_tree.specs.Made.{Kinds, made_parts}
-use Rattle.cadf_tree.specs.declared.growth.Growth.{Growth}
 use Rattle.cadf_tree.specs.declared.parts.Kind.{Kind}
 use Rattle.cadf_tree.specs.declared.parts.Kind.TheVariants.{Both, Added, Gone}
 use Rattle.cadf_tree.specs.declared.parts.Part.{Part}

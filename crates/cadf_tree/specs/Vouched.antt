@@ -15,7 +15,6 @@ use Rattle.cadf_tree.specs.Grown.{verdict}
 use Rattle.cadf_tree.specs.GrowthLaws.{DoNotCollide, IsHashedFor, IsHashedBy, HaveHashes, IsDifference}
 use Rattle.cadf_tree.specs.Presence.{member}
 use Rattle.cadf_tree.specs.declared.tree.Root.{Root}
-use Rattle.cadf_tree.specs.declared.growth.Growth.{Growth}
 use Rattle.cadf_tree.specs.declared.parts.Kind.TheVariants.{Added}
 use Rattle.cadf_tree.specs.declared.parts.Part.{Part}
 
