@@ -1,0 +1,99 @@
+-- What is told of two seals is so.
+use Rattle.cadf_evidence.proofs.Common.{◌≡◌, ◌∙◌, ℕ, List, [], ◌∷◌, length, true, false, Option, Some, None, Result, Ok, Err, refl, sym, ap, subst, arith, common_steps, AllByRecursion, Text, Contents, sha_digest, key_digest, keys_of, digest_of_some, IsDigest, Digests, all_needed, fault_unless, growth_unless, tree_fault, verdict, BothAreHonest, items, leaves_of, number, IsSet, Growth, TreeFault, NotNeeded, option_or, Kind, Both, Added, Went, Part, Node, Hash, Leaf, Root, all_gone_fault, error_of, first_unlisted, gone_fault, growth_of, growth_text, is_listed, keys_growth, later_fault, log_fault, placed, told_growth, unless_log, unlisted, AreKeyParts, AreParts, seal_of, GrowthIsSo, fact_digests, given_parts, key_digests, text_unless, GrowthFault, SealedSet, Facts, Keys}
+use Rattle.cadf_evidence.proofs.SetsOfDigests.{digests_are_set, facts_are_set}
+use Rattle.cadf_evidence.proofs.ToldFacts.{both_none, have_hashes}
+
+-- ---- what isn't refused
+
+past_log : (o : Option GrowthFault) (r : Result (List ℕ) GrowthFault) (text : List ℕ) → unless_log o r ≡ Ok text → r ≡ Ok text
+past_log o r text e = grind (arith, common_steps)
+
+record IsTold (later : Option GrowthFault) (list : Option Digests) (r : Result Growth GrowthFault) (text : List ℕ) : Type 0 where
+  pub growth : Growth
+  pub is : r ≡ Ok growth
+  pub none : later ≡ None
+  pub told : text ≡ growth_text list growth
+
+no_later : (o : Option GrowthFault) (t text : List ℕ) → text_unless o t ≡ Ok text → (o ≡ None) × (text ≡ t)
+no_later o t text e = grind (arith, common_steps)
+
+is_told : (later : Option GrowthFault) (list : Option Digests) (r : Result Growth GrowthFault) (text : List ℕ) → told_growth later list r ≡ Ok text → IsTold later list r text
+is_told later list (Err f) text e = absurd (cc)
+is_told later list (Ok g) text e =
+    let p = no_later later (growth_text list g) text e in
+    record { growth = g; is = refl; none = p.0; told = p.1 }
+
+accepted : (t : SealedSet) (r : Result Growth TreeFault) (g : Growth) → placed t r ≡ Ok g → r ≡ Ok g
+accepted t r g e = grind (arith, common_steps)
+
+keys_accepted : (a b : Root) (o : Option (List Part)) → error_of (keys_growth a b o) ≡ None → (g : Growth) × (verdict a b (given_parts o) ≡ Ok g)
+keys_accepted a b None e = absurd (cc)
+keys_accepted a b (Some ks) e = by (verdict a b ks) refl e
+  where
+    by : (r : Result Growth TreeFault) → verdict a b ks ≡ r → error_of (placed Keys r) ≡ None → (g : Growth) × (verdict a b ks ≡ Ok g)
+    by (Ok g) is k = (g, is)
+    by (Err f) is k = absurd (cc)
+
+counts_are : (o : Option TreeFault) (ps : List Part) (g : Growth) → growth_unless o ps ≡ Ok g
+    → g ≡ record { added = number (Some Added) ps; gone = number (Some Went) ps }
+counts_are o ps g e = grind (arith, common_steps)
+
+counted : (k : Kind) (ps : List Part) → number (Some k) ps ≡ length (leaves_of k ps)
+counted k [] = refl
+counted k (Node ∷ ps) = counted k ps
+counted k (Hash h ∷ ps) = counted k ps
+counted k (Leaf l d ∷ ps) = grind (arith, common_steps, (counted k ps))
+
+-- ---- what went
+
+not_gone : (t : SealedSet) (list : Option Digests) (ps : List Part) → gone_fault t list ps ≡ None → first_unlisted list ps ≡ None
+not_gone t list ps e = grind (arith, common_steps)
+
+listed_leaf : (list : Option Digests) (d : Text) → unlisted list (Leaf Went d) ≡ None → is_listed list d ≡ true
+listed_leaf list d e = grind (arith, common_steps)
+
+all_listed : (list : Option Digests) (ps : List Part) → first_unlisted list ps ≡ None → AllByRecursion (λ d. is_listed list d ≡ true) (leaves_of Went ps)
+all_listed list [] e = tt
+all_listed list (Node ∷ ps) e = all_listed list ps e
+all_listed list (Hash h ∷ ps) e = all_listed list ps e
+all_listed list (Leaf Both d ∷ ps) e = all_listed list ps e
+all_listed list (Leaf Added d ∷ ps) e = all_listed list ps e
+all_listed list (Leaf Went d ∷ ps) e = let p = both_none (unlisted list (Leaf Went d)) (first_unlisted list ps) e in (listed_leaf list d p.0, all_listed list ps p.1)
+
+-- ---- both sets
+
+keys_are_set : (held : Contents) → IsSet (key_digests held)
+keys_are_set held = digests_are_set (keys_of held) (λ d h. let x = digest_of_some key_digest held d h in subst IsDigest (sym x.2) (sha_digest _))
+
+given_are : (o : Option (List Part)) → AreKeyParts o → AreParts (given_parts o)
+given_are None each = tt
+given_are (Some ks) each = each
+
+pub growth_is_so : BothAreHonest → GrowthIsSo
+growth_is_so honest a b p list text is facts_apart keys_apart e =
+    let s = seal_of a in
+    let n = seal_of b in
+    let r = growth_of Facts s.facts n.facts p.facts in
+    let t = is_told (later_fault s n p list) list r text (past_log (log_fault s.log n.log p.log) (told_growth (later_fault s n p list) list r) text e) in
+    let facts = accepted Facts (verdict s.facts n.facts p.facts) t.growth t.is in
+    let later = both_none (error_of (keys_growth s.keys n.keys p.keys)) (all_gone_fault list p) t.none in
+    let gone = both_none (gone_fault Facts list p.facts) (gone_fault Keys list (given_parts p.keys)) later.1 in
+    let keys = keys_accepted s.keys n.keys p.keys later.0 in
+    let counts = counts_are (option_or (tree_fault s.facts n.facts p.facts) (fault_unless (all_needed false (items p.facts)) NotNeeded)) p.facts t.growth facts in
+    record {
+      facts = record {
+        added = leaves_of Added p.facts;
+        gone = leaves_of Went p.facts;
+        difference = honest (fact_digests a.atoms) (fact_digests b.atoms) p.facts t.growth (facts_are_set a.atoms) (facts_are_set b.atoms)
+            (have_hashes p.facts is.parts.facts) facts_apart facts;
+        listed = all_listed list p.facts (not_gone Facts list p.facts gone.0);
+      };
+      keys = record {
+        added = leaves_of Added (given_parts p.keys);
+        gone = leaves_of Went (given_parts p.keys);
+        difference = honest (key_digests a.atoms) (key_digests b.atoms) (given_parts p.keys) keys.0 (keys_are_set a.atoms) (keys_are_set b.atoms)
+            (have_hashes (given_parts p.keys) (given_are p.keys is.parts.keys)) keys_apart keys.1;
+        listed = all_listed list (given_parts p.keys) (not_gone Keys list (given_parts p.keys) gone.1);
+      };
+      told = t.told ∙ ap (growth_text list) (counts ∙ (λ i. record { added = counted Added p.facts i; gone = counted Went p.facts i }));
+    }

@@ -1,0 +1,9 @@
+mod AlikeLines
+mod EqualSeals
+mod GrownSets
+mod MarkedLemmas
+mod ProofLineLemmas
+mod SealLemmas
+mod SetsOfDigests
+mod ToldFacts
+pub mod Common

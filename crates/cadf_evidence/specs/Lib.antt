@@ -1,0 +1,13 @@
+pub mod Fault
+pub mod Growth
+pub mod Marked
+pub mod ProofFile
+pub mod ProofLines
+pub mod ProofVerdict
+pub mod SealFile
+pub mod SealLines
+pub mod SealVerdict
+pub mod Soundness
+pub mod Told
+pub mod Verified
+pub mod laws

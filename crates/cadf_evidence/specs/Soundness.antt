@@ -1,0 +1,77 @@
+-- What follows if a proof is accepted under the seal of a set.
+--     HasFacts s held      the first root of the seal is that of the facts of this set
+--     IsHashedIn held p x  the text x is hashed for this root, or for that of the proof's parts
+--     FactsAreSo           of facts that are told, each is in the sealed set or not, as was asked
+--     Differ l old new     the sets old and new differ by some digests alone, and those that went are listed
+--     IsGrown a b l text   so do the facts of both sets and their keys, and the text says how many facts
+--     GrowthIsSo           what is told of two seals is so
+--     unchanged_parts ds   the parts that show that the set ds didn't change
+--     EqualSealsAreOfOneSet   equal seals are of one log and one set of facts
+use Rattle.std.specs.Prelude.{◌≡◌, ◌⊎◌, Bool, true, not, List, [], ◌∷◌, ℕ, length, Option, unwrap_or, Ok}
+use Rattle.std.specs.List.{AllByRecursion}
+use Rattle.cadf_join.specs.Contents.{Text, Texts, Contents, Has}
+use Rattle.cadf_join.specs.Sets as set
+use Rattle.cadf_join.specs.Sets.{rising}
+use Rattle.cadf_line.specs.Digest.{atom_digest}
+use Rattle.cadf_key.specs.Keys.{keys_of}
+use Rattle.cadf_line.specs.Missing.{Digests, NoCollision, digests_of}
+use Rattle.cadf_set.specs.Replica.{ReplicaModel}
+use Rattle.cadf_tree.specs.Tree.{root, tree_hash, tree_of}
+use Rattle.cadf_tree.specs.Pruned.{is_earlier}
+use Rattle.cadf_tree.specs.GrowthLaws.{DoNotCollide, IsDifference, IsHashedFor, IsHashedBy, IsHashedForBoth}
+use Rattle.cadf_tree.specs.declared.parts.Part.{Part}
+use Rattle.cadf_tree.specs.declared.parts.Part.TheVariants.{Hash}
+use Rattle.cadf_evidence.specs.Growth.{grown, growth_text, is_listed}
+use Rattle.cadf_evidence.specs.ProofFile.{ProofModel, IsProof}
+use Rattle.cadf_evidence.specs.SealFile.{SealModel, seal_of}
+use Rattle.cadf_evidence.specs.Verified.{verified}
+
+abbrev pub fact_digests : Contents → List Text
+fact_digests held = rising (digests_of atom_digest held)
+
+abbrev pub HasFacts : SealModel → Contents → Type 0
+HasFacts s held = s.facts ≡ root (fact_digests held)
+
+abbrev pub IsHashedIn : Contents → ProofModel → Text → Type 0
+IsHashedIn held p x = IsHashedFor (fact_digests held) x ⊎ IsHashedBy is_earlier (length (fact_digests held)) p.facts x
+
+-- no other fact of the set has the digest of one of these
+abbrev pub FactsAreSo : Type 0
+FactsAreSo = (s : SealModel) (p : ProofModel) (held facts : Contents) (absent : Bool) (text : List ℕ) → IsProof p → HasFacts s held
+    → DoNotCollide (IsHashedIn held p) → ((x y : Texts) → Has facts x → Has held y → atom_digest x ≡ atom_digest y → x ≡ y)
+    → verified s p facts absent ≡ Ok text → (q : Texts) → Has facts q → set.contains held q ≡ not absent
+
+-- ---- growth
+
+abbrev pub key_digests : Contents → List Text
+key_digests held = rising (keys_of held)
+
+abbrev pub given_parts : Option (List Part) → List Part
+given_parts o = unwrap_or o []
+
+pub record Differ (list : Option Digests) (old new : List Text) : Type 0 where
+  pub added : List Text
+  pub gone : List Text
+  pub difference : IsDifference old new added gone
+  pub listed : AllByRecursion (λ d. is_listed list d ≡ true) gone
+
+pub record IsGrown (a b : ReplicaModel) (list : Option Digests) (text : List ℕ) : Type 0 where
+  pub facts : Differ list (fact_digests a.atoms) (fact_digests b.atoms)
+  pub keys : Differ list (key_digests a.atoms) (key_digests b.atoms)
+  pub told : text ≡ growth_text list (record { added = length facts.added; gone = length facts.gone })
+
+abbrev pub GrowthIsSo : Type 0
+GrowthIsSo = (a b : ReplicaModel) (p : ProofModel) (list : Option Digests) (text : List ℕ) → IsProof p
+    → DoNotCollide (IsHashedForBoth (fact_digests a.atoms) (fact_digests b.atoms) p.facts)
+    → DoNotCollide (IsHashedForBoth (key_digests a.atoms) (key_digests b.atoms) (given_parts p.keys))
+    → grown (seal_of a) (seal_of b) p list ≡ Ok text → IsGrown a b list text
+
+-- ---- equal seals
+
+abbrev pub unchanged_parts : List Text → List Part
+unchanged_parts [] = []
+unchanged_parts (d ∷ ds) = Hash (tree_hash (tree_of (d ∷ ds))) ∷ []
+
+abbrev pub EqualSealsAreOfOneSet : Type 0
+EqualSealsAreOfOneSet = (a b : ReplicaModel) → DoNotCollide (IsHashedForBoth (fact_digests a.atoms) (fact_digests b.atoms) (unchanged_parts (fact_digests a.atoms)))
+    → NoCollision atom_digest (set.union a.atoms b.atoms) → seal_of a ≡ seal_of b → a ≡ b

@@ -1,0 +1,59 @@
+//! Laws over the definitions alone. Each function's contract is a theorem, and its body is empty.
+ghost use Rattle.std.specs.Prelude.{◌≡◌, ◌≤◌, ℕ, length, false, Ok};
+ghost use Rattle.cadf_evidence.specs.ProofFile.{IsProof, ProofFileIsInjective, proof_file};
+ghost use Rattle.cadf_evidence.specs.ProofVerdict.{proof_verdict};
+ghost use Rattle.cadf_evidence.specs.SealFile.{IsSeal, SealFileIsInjective, seal_file};
+ghost use Rattle.cadf_evidence.specs.SealVerdict.{seal_verdict};
+ghost use Rattle.cadf_evidence.specs.Soundness.{FactsAreSo, GrowthIsSo, EqualSealsAreOfOneSet};
+
+use crate::proof::Proof;
+use crate::seal::Seal;
+use cadf_tree::{growth_is_sound, presence_is_sound};
+
+/// States that a seal's file is injective: seals with equal files are equal.
+pub fn seal_file_is_injective()
+    ensures { SealFileIsInjective }
+{}
+
+/// States that the file of a seal is accepted if it is within the limit, and is read as that seal.
+pub fn seal_is_read_back(seal: &Seal)
+    ensures seal { IsSeal seal.now }
+    ensures read { (limit : ℕ) → length (seal_file seal.now) ≤ limit → seal_verdict limit false (seal_file seal.now) ≡ Ok seal.now }
+{
+    seal.type_invariant();
+}
+
+/// States that a proof's file is injective: proofs with equal files are equal.
+pub fn proof_file_is_injective()
+    ensures { ProofFileIsInjective }
+{}
+
+/// States that the file of a proof is accepted if it is within the limit, and is read as that proof.
+pub fn proof_is_read_back(proof: &Proof)
+    ensures proof { IsProof proof.now }
+    ensures read { (limit : ℕ) → length (proof_file proof.now) ≤ limit → proof_verdict limit false (proof_file proof.now) ≡ Ok proof.now }
+{
+    proof.type_invariant();
+}
+
+/// States that of facts that are told, each is in the sealed set or not, as was asked, if what is hashed doesn't collide.
+pub fn told_facts_are_so()
+    ensures { FactsAreSo }
+{
+    presence_is_sound();
+}
+
+/// States that two sealed sets differ as is told, and that of what went each digest is in the list, if what is hashed doesn't
+/// collide.
+pub fn told_growth_is_so()
+    ensures { GrowthIsSo }
+{
+    growth_is_sound();
+}
+
+/// States that equal seals are of one log and one set of facts, if what is hashed doesn't collide.
+pub fn equal_seals_are_of_one_set()
+    ensures { EqualSealsAreOfOneSet }
+{
+    growth_is_sound();
+}

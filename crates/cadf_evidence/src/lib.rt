@@ -1,0 +1,24 @@
+//! Evidence about sealed sets: seals, whose roots are those of two trees of digests, and proofs by these trees.
+#![tactic(auto)]
+
+mod fault;
+mod growth;
+mod laws;
+mod marked;
+mod proof;
+mod proof_lines;
+mod seal;
+mod seal_lines;
+mod telling;
+mod verify;
+
+pub use fault::ProofFault;
+pub use growth::{Digest, GrowthFault, SealedSet, grown};
+pub use laws::{
+    equal_seals_are_of_one_set, proof_file_is_injective, proof_is_read_back,
+    seal_file_is_injective, seal_is_read_back, told_facts_are_so, told_growth_is_so,
+};
+pub use proof::Proof;
+pub use seal::Seal;
+pub use telling::FactLines;
+pub use verify::{VerifyFault, verified};

@@ -1,0 +1,101 @@
+//! What a proof says of facts to a reader with a seal.
+ghost use Rattle.std.specs.Prelude.{◌≡◌, Ok, IfOk, IfErr, None};
+ghost use Rattle.cadf_evidence.specs.Verified.{fact_fault, first_fault, refusal, verified, VerifyFaultIs};
+
+use crate::fault::{ProofFault, proof_fault};
+use crate::proof::Proof;
+use crate::seal::Seal;
+use crate::telling::{FactLines, told};
+use cadf_json::Memory;
+use cadf_set::Replica;
+use cadf_tree::{Part, shown, state};
+use std::alloc::Global;
+use thiserror::Error;
+
+/// Why a proof, which is input 3, is refused for some facts, or one of them isn't as asked. Facts are counted from 1.
+#[derive(Clone, Copy, Debug, Drop, PartialEq, Eq, Error)]
+pub enum VerifyFault {
+    /// The proof's parts show nothing under the seal, or more than these facts need.
+    #[error("input 3: {0}")]
+    Proof(ProofFault),
+    /// The proof doesn't show whether the fact of that number is there.
+    #[error("fact {0}: not shown")]
+    NotShown(u64),
+    /// The fact of that number isn't there.
+    #[error("fact {0}: absent")]
+    Absent(u64),
+    /// The fact of that number is there.
+    #[error("fact {0}: present")]
+    Present(u64),
+    /// An allocation failed.
+    #[error("out of memory")]
+    Memory,
+}
+
+impl From<Memory> for VerifyFault {
+    ghost use Rattle.std.specs.Prelude.{◌≡◌};
+    ghost use Rattle.cadf_evidence.specs.declared.verify.VerifyFault.TheVariants.{Memory as OutOfMemory};
+
+    ghost from_gives = { λ _ e. e ≡ OutOfMemory };
+
+    fn from(_refused: Memory) -> VerifyFault {
+        VerifyFault::Memory
+    }
+}
+
+/// Returns why the fact of that number isn't as asked, if it isn't, by what the proof shows of it.
+fn fact_fault(absent: bool, number: u64, state: Option<bool>) -> Option<VerifyFault>
+    ensures { result ≡ fact_fault absent number state }
+{
+    match (absent, state) {
+        (_, None) => Some(VerifyFault::NotShown(number)),
+        (true, Some(true)) => Some(VerifyFault::Present(number)),
+        (false, Some(false)) => Some(VerifyFault::Absent(number)),
+        _ => None,
+    }
+}
+
+/// Returns the fault of the first of these digests of facts that isn't as asked, counted from 1.
+fn first_fault(absent: bool, parts: &[Part], digests: &[[u8; 32]]) -> Option<VerifyFault>
+    ensures { result ≡ first_fault absent parts.now 1 digests.now }
+{
+    for index in 0..digests.len() {
+        let state = state(parts, &digests[index]);
+        if let Some(fault) = fact_fault(absent, index as u64 + 1, state) {
+            return Some(fault);
+        }
+    }
+    None
+}
+
+/// Returns why the proof isn't one of these facts under the seal, or the first fact that isn't as asked.
+fn refusal(seal: &Seal, proof: &Proof, digests: &[[u8; 32]], absent: bool) -> Option<VerifyFault>
+    ensures { result ≡ refusal seal.now proof.now digests.now absent }
+{
+    if let Some(fault) = shown(seal.facts(), proof.facts(), digests) {
+        return Some(VerifyFault::Proof(proof_fault(fault)));
+    }
+    match proof.keys() {
+        Some(_) => Some(VerifyFault::Proof(ProofFault::NotNeeded)),
+        None => first_fault(absent, proof.facts(), digests),
+    }
+}
+
+/// Verifies, by a proof under the seal, that each of the facts is in the sealed set; with `absent`, that none is. Returns a
+/// line of text for each fact, in the order of atoms. `Err`: the first fault. The log isn't compared.
+pub fn verified(
+    alloc: Global,
+    seal: &Seal,
+    facts: &Replica,
+    proof: &Proof,
+    absent: bool,
+) -> Result<FactLines, VerifyFault>
+    ensures ok { IfOk result (λ lines. verified seal.now proof.now facts.now.atoms absent ≡ Ok lines) }
+    ensures err { IfErr result (λ e. VerifyFaultIs e (verified seal.now proof.now facts.now.atoms absent)) }
+{
+    let digests = facts.digests()?;
+    if let Some(fault) = refusal(seal, proof, digests.as_slice(), absent) {
+        return Err(fault);
+    }
+    Ok(told(alloc, facts, absent)?)
+}
