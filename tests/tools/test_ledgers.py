@@ -219,7 +219,7 @@ def test_hard_links(place):
 
 def test_a_cap_keeps_files_with_their_sender(place):
     """Who has more in set-aside/ than may be there sends nothing more until that was looked at."""
-    place.lines("a.jsonl", b"".join(b"x%d\n" % number for number in range(1000)))
+    place.lines("a.jsonl", b"".join(b"x%d\n" % number for number in range(10 ** 4)))  # some 60,000 bytes, and no fewer are set aside
     place.run_once()
     place.send("b.json", event("b", "2024-03-01T12:00:00Z"))
     left, said = place.run_once({"waiting": 3 * 10 ** 4})

@@ -18,6 +18,7 @@ from tests.tools import others
 from tests.tools.copies import copied, is_caught
 from tests.tools.faulty import calls_of
 from tests.tools.odd_logs import EVENT
+from tests.tools.programs import Told
 
 TOOLS = os.path.join(TOP, "tools")
 sys.path.insert(0, os.path.join(TOP, "share", "cadf"))
@@ -158,9 +159,10 @@ def test_further_files_and_nothing_new(folder, mask):
 def test_a_take_reads_the_site_once(folder, name, old, site):
     """The command is run once, whatever the files add."""
     folder.site(site=getattr(folder, old))
-    put("counting", '#!/bin/sh\necho "$1" >>calls\nexec "$BUILT" "$@"\n', 0o755)
+    told = Told()
+    put("counting", '#!/bin/sh\necho "$1" | %s\nexec "$BUILT" "$@"\n' % told.tell, 0o755)
     ends(folder.take("s.cadf", name, env={"CADF": "./counting", "BUILT": folder.cadf}), 0)
-    assert held("s.cadf") == getattr(folder, site) and held("calls") == b"join\n"
+    assert held("s.cadf") == getattr(folder, site) and told.lines() == ["join"]
 
 
 def test_behind_a_killed_run(folder):
