@@ -30,7 +30,7 @@ NO_LOG = "cadf-take: event.json: no log named: an event by itself names none: gi
 KILLING = """#!/bin/sh
 case $STAGE in
 "before $1") kill -9 $PPID ;;
-"within $1") "$BUILT" "$@" >"$PART" && head -c 100 "$PART" && kill -9 $PPID && sleep 0.1 && tail -c +101 "$PART" && exit ;;
+"within $1") "$BUILT" "$@" | { head -c 100 && kill -9 $PPID && sleep 0.1 && cat; }; exit ;;
 esac
 "$BUILT" "$@"
 if [ "$STAGE" = "after $1" ]; then kill -9 $PPID; fi
@@ -354,7 +354,7 @@ def test_no_folder(folder):
 
 
 @pytest.mark.parametrize("text, status, error", [
-    pytest.param("echo 'cadf: out of memory' >&2; exit 4", 4, "cadf-take: out of memory\n", id="memory"),
+    pytest.param("echo 'cadf: out of memory' >&2; exit 4", 4, "cadf-take: out of memory: have more of it, or give more by --memory\n", id="memory"),
     pytest.param("exit 127", 3, "cadf-take: ./odd: ended by status 127\n", id="another status"),
     pytest.param("kill -9 $$", 3, "cadf-take: ./odd: ended by signal 9\n", id="a signal"),
     pytest.param('[ "$1" = join ] || exec "$BUILT" "$@"; "$BUILT" "$@" | head -c 100', 3,
@@ -442,7 +442,7 @@ def test_many_callers(folder, callers):
         put("many.%d.json" % number, document("e%d" % number))
         environment = {**os.environ, "CADF": folder.cadf}
         if number % 3 == 2:
-            environment.update(CADF="./killing", BUILT=folder.cadf, PART="part.%d" % number, STAGE=STAGES[number // 3 % len(STAGES)])
+            environment.update(CADF="./killing", BUILT=folder.cadf, STAGE=STAGES[number // 3 % len(STAGES)])
         running.append(subprocess.Popen([folder.tool, "s.cadf", "many.%d.json" % number], env=environment, stderr=subprocess.DEVNULL))
     for number, child in enumerate(running):
         assert child.wait() == (-9 if number % 3 == 2 else 0), number
