@@ -1,12 +1,17 @@
 """One stranger, one honest sender: whatever the stranger sends, and by whichever way both come, the honest event is in the site within one run."""
 import datetime
+import errno
+import functools
 import json
 import os
+import sys
 
 import pytest
 
+from tests.machine import ended
 from tests.reference.replica_files import file_of
 from tests.reference.split_files import parts_of
+from tests.tools.copies import is_caught
 from tests.tools.listeners import LISTEN
 from tests.tools.programs import loaded
 from tests.tools.test_rest import Place, atoms_of, days, event
@@ -121,6 +126,61 @@ def test_what_is_no_event_stops_none(place, junk, name):
     place.put("spool/honest.json", HONEST)
     done = place.spool()
     assert done.status in (0, 1) and b"Traceback" not in done.error and atoms_of(HONEST) <= place.site(), done
+
+
+# Runs a program on a system that refuses a call on the file bad.json, or says that something is mounted over it.
+ODD_FILE = """
+import builtins, io, os, runpy, sys
+way, number, sys.argv = sys.argv[1], int(sys.argv[2]), sys.argv[3:]
+right_open, here = open, os.fsencode(os.getcwd())
+def is_bad(name):
+    return os.fsdecode(name) == "bad.json" if isinstance(name, (str, bytes)) else False
+def fail():
+    raise OSError(number, os.strerror(number))
+def failing(call):
+    return lambda name, *words, **options: fail() if is_bad(name) else call(name, *words, **options)
+class Unread(io.FileIO):
+    def read(self, *_):
+        fail()
+def opened(name, *words, **options):
+    if way == "mounted" and name == "/proc/self/mountinfo":
+        return io.BytesIO(b"1 2 0:3 / / rw - x y z\\n7 2 0:9 / %s/spool/bad.json rw - fuse y z\\n" % here.replace(b" ", b"\\\\040"))
+    return Unread(name, "rb", opener=options["opener"]) if way == "read" and is_bad(name) else right_open(name, *words, **options)
+builtins.open = opened
+for each in {"mounted": ("lstat", "open", "rename"), "read": ()}.get(way, (way,)):
+    setattr(os, each, failing(getattr(os, each)))
+runpy.run_path(sys.argv[0], run_name="__main__")
+"""
+
+
+@pytest.mark.parametrize("way, number", [("lstat", errno.EACCES), ("lstat", errno.ENOTCONN), ("rename", errno.EBUSY), ("open", errno.EIO), ("open", errno.ESTALE), ("read", errno.EIO),
+                                         ("mounted", errno.ETIMEDOUT)])
+def test_a_file_that_can_t_be_read_stays_with_its_sender(place, way, number):
+    """As one over which its sender has mounted a file system: it is told in a line, all else is taken, and the numbers are written. Nobody looks at what is mounted."""
+    bad = event("bad", HONEST["eventTime"])
+    place.put("spool/bad.json", bad)
+    place.put("spool/honest.json", HONEST)
+    words = ["--unchanged", "0", "--metrics", "m.prom", "site/", "spool"]
+    done = ended(sys.executable, ["-c", ODD_FILE, way, str(number), os.path.join(place.tools, "cadf-spool"), *words], cwd=place.path, env={**os.environ, "CADF": place.cadf})
+    told = [line for line in done.error.decode().splitlines() if "bad.json" in line]
+    assert done.status == 0 and len(told) == 1 and b"Traceback" not in done.error, done
+    assert ("something is mounted there" if way == "mounted" else os.strerror(number)) in told[0]
+    assert place.site() == atoms_of(BASE, HONEST) and 'became="waiting"} 1' in (place.path / "m.prom").read_text().replace(',site="site/"', "").replace('site="site/",', "")
+    done = place.run("cadf-spool", *words)  # once it can be read
+    assert done.status == 0 and place.site() == atoms_of(BASE, HONEST, bad), done
+
+
+@pytest.mark.parametrize("way, number, texts", [
+    ("lstat", errno.EACCES, ["odd[fault.strerror].append(name)", "self.note(\"waiting\", FAILED)"]), ("mounted", errno.ETIMEDOUT, ["if place.startswith(begin)", "if False"]),
+    ("read", errno.EIO, ["raise Waits(\"it can't be read: %s\" % fault.strerror, DONE)", "raise"])])
+def test_a_run_that_fails_for_one_file_is_caught(cadf, tmp_path, way, number, texts):
+    def made(tools):
+        found = Place(cadf, tmp_path / "place", tools)
+        (found.path / "spool").mkdir()
+        found.takes("--by=day", "site/", found.put("base.json", BASE))
+        return found
+
+    is_caught(tmp_path, texts, functools.partial(test_a_file_that_can_t_be_read_stays_with_its_sender, way=way, number=number), made)
 
 
 MESSAGES = {**JUNK, "a line feed": b'{"payload":\n' + json.dumps(HONEST).encode(), "no UTF-8": b"\xff" * 1000, "blank": b"", "an entry of what was set aside": b'{"faults":[],"text":"x"}',
