@@ -12,6 +12,7 @@ import contextlib
 import functools
 import hashlib
 import json
+import operator
 import os
 import sqlite3
 from typing import NamedTuple
@@ -373,7 +374,7 @@ class EventIndex:
 
     def keys_by_window(self, rows, test):
         found, names = collections.defaultdict(set), dict(self.run("SELECT id, name FROM windows"))
-        for window, key in self.run("SELECT DISTINCT window, key FROM %s WHERE %s AND %s" % (rows, " AND ".join(self.where), test), self.words):
+        for window, key in self.run("SELECT DISTINCT +window, +key FROM %s WHERE %s AND %s" % (rows, " AND ".join(self.where), test), self.words):
             found[names[window]].add(key)
         return found
 
@@ -404,9 +405,8 @@ class EventIndex:
         """How many events answer, of those that can be counted, by an hour or a day, or by what they have for a pattern of this kind first; or how many bodies may."""
         column, counts = by if by in COLUMNS else "second / %d" % LENGTHS[by] if by in LENGTHS else "others", collections.Counter()
         numbers, tests = collections.Counter(), " AND ".join([*self.where, "second IS NOT NULL" if of_bodies else IS_KNOWN])
-        for rows, sign in (("bodies", 1), *(() if of_bodies else ((OF_SEVERAL, -1),))):  # which costs less than to look for each key among those of several
-            for number, count in self.run("SELECT %s, count(*) FROM %s WHERE %s GROUP BY 1" % (column, rows, tests), self.words):
-                numbers[number] += sign * count
+        for rows, change in (("bodies", numbers.update), *(() if of_bodies else ((OF_SEVERAL, numbers.subtract),))):  # which costs less than to look for each key among those of several
+            change(map(operator.itemgetter(0), self.run("SELECT %s FROM %s WHERE %s" % (column, rows, tests), self.words)))  # and this less than to have SQLite sort them
         for number, count in (+numbers).items():
             if by in LENGTHS:
                 counts[utc(number * LENGTHS[by] * SECOND)] = count

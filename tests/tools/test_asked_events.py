@@ -151,7 +151,7 @@ def test_wrong_counts_are_caught(cadf, tmp_path, right, wrong):
     ("not self.open.isdisjoint(parts)", "False"), ("self.ruled_in.setdefault(*parts, []).append(key)", "pass"), ('"ruled" not in conflict and ', ""),
     ("rulings = windows.ruled_of(windows.common)", "rulings = []"), ("several |= own", "several |= keys_of(keys or b'')"),
     ("windows.facts), reverse=self.is_reversed)", "windows.facts))"), ("if is_only_open or self.counts is not None:", "if is_only_open:"),
-    ("self.question.has(value, each[2])", "True"), ("(OF_SEVERAL, -1)", "(OF_SEVERAL, 0)"),
+    ("self.question.has(value, each[2])", "True"), ("((OF_SEVERAL, numbers.subtract),)", "()"),
 ])
 def test_wrong_versions_are_caught(cadf, tmp_path, right, wrong):
     tools = copied(tmp_path / "copy", right, wrong)
