@@ -1,0 +1,2 @@
+pub mod ErasedFile
+pub mod ErasedVerdict
