@@ -1,2 +1,4 @@
 pub mod ErasedFile
 pub mod ErasedVerdict
+pub mod Left
+pub mod laws

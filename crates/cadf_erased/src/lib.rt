@@ -1,8 +1,9 @@
-//! Lists of what was erased of a log, by digests, and their files.
+//! Lists of what was erased of a log, by digests: their files, and what of a replica they leave.
 #![tactic(auto)]
 
 mod erased;
-mod laws;
+pub mod laws;
+mod left;
 mod lines;
 mod read;
 mod write;
@@ -10,6 +11,6 @@ mod write;
 pub use cadf_json::{Memory, OutFault, Sink, Source};
 pub use cadf_linefile::{Cause, FILE_LIMIT, FileFault};
 pub use erased::Erased;
-pub use laws::{accepted_bytes_are_erased, erased_file_is_injective, erased_is_read_back};
+pub use left::write_left;
 pub use read::read_erased;
 pub use write::write_erased;

@@ -1,0 +1,2 @@
+-- Laws that ghost members cite.
+pub mod Places
