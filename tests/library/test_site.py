@@ -7,6 +7,7 @@ import os
 import pathlib
 import pickle
 import re
+import resource
 import shutil
 import subprocess
 import sys
@@ -20,6 +21,7 @@ from tests.reference.events import EVENT_URI, document as atoms_of
 from tests.reference.json_text import spelled
 from tests.reference.rulings import digest_of_value
 from tests.reference.site_seal_files import site_seal_of
+from tests.tools.copies import copied
 from tests.tools.odd_logs import EVENT
 
 import cadf
@@ -314,6 +316,28 @@ def test_table_of_conflicts():
     site = made("site/", *DAYS, document(name="a"), document(name="b"))
     assert [[text for _, text in row] for row in cells(site.conflicts()._repr_html_())] == [
         ["state", "letter", "key", "values"], ["open", "E", "e2", "2"], ["open", "P", "name", "2"]]
+
+
+# ---- What it costs
+
+def worked():
+    """The seconds that programs have worked which were started here."""
+    used = resource.getrusage(resource.RUSAGE_CHILDREN)
+    return used.ru_utime + used.ru_stime
+
+
+def test_cost_of_one_event_more(cadf, folder, monkeypatch):
+    """A folder of 100,000 events takes another one in at most 0.3 s of the processor, also as the machine is busy otherwise."""
+    monkeypatch.setenv("CADF", cadf)
+    monkeypatch.setenv("PATH", copied(str(folder)) + os.pathsep + os.environ["PATH"])  # where what they import is compiled, as it is installed
+    many = [event("e%d" % number, "2024-03-%02dT%02d:%02d:%02dZ" % (1 + number // 3334, number // 139 % 24, number // 60 % 60, number % 60)) for number in range(100_000)]
+    site, took = made("site/", document(*many)), []
+    for number in range(5):
+        begun = worked()
+        site.take(document(event("f%d" % number, "2024-03-09T12:00:00Z")))
+        took.append(worked() - begun)
+    assert min(took) <= 0.3, took
+    assert sum(1 for _ in site.events("2024-03-09", "2024-03-10").bodies()) == 3334 + 5
 
 
 # ---- Examples and pages
