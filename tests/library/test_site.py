@@ -9,6 +9,7 @@ import pickle
 import re
 import resource
 import shutil
+import signal
 import subprocess
 import sys
 
@@ -225,6 +226,16 @@ def test_ended_by_a_signal(folder, monkeypatch):
     monkeypatch.setenv("PATH", str(folder) + os.pathsep + os.environ["PATH"])
     with pytest.raises(cadf.Failed, match="^cadf-seal: ended with -9$"):
         cadf.Site("site").seal()
+
+
+def test_no_failure_is_lost():
+    """Where the system drops how programs end, none is started: each would seem to end well."""
+    before = signal.signal(signal.SIGCHLD, signal.SIG_IGN)
+    try:
+        with pytest.raises(cadf.Failed, match="^cadf-take: SIGCHLD is ignored"):
+            cadf.Site("site").take("{")
+    finally:
+        signal.signal(signal.SIGCHLD, before)
 
 
 def test_damage_is_told(folder):

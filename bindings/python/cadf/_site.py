@@ -7,6 +7,7 @@ import itertools
 import json
 import os
 import re
+import signal
 import subprocess
 import warnings
 from typing import Any, Dict, Iterable, Iterator, List, Mapping, NamedTuple, Optional, Sequence, Tuple, Union
@@ -58,6 +59,8 @@ class Call:
 
     def lines(self) -> Iterator[bytes]:
         """Yields what the tool writes. If that isn't read to its end, the tool is ended."""
+        if signal.getsignal(signal.SIGCHLD) is signal.SIG_IGN:
+            raise Failed("%s: SIGCHLD is ignored here, so nobody would know how it ends" % self.words[0])
         with contextlib.ExitStack() as files:
             said = files.enter_context(os.fdopen(os.memfd_create("cadf"), "w+b"))
             descriptors = [each.file for each in self.inputs if each.file is not None]
