@@ -603,9 +603,8 @@ KINDS = {
     missings: 14, shows: 10, read_by(damages): 12, read_by(odd_files.odd_atoms_file): 16, read_by(odd_nodes.odd_nodes_file): 22,
     example_documents: 8, example_joins: 2, chains: 3, json_texts: 8, byte_texts: 4, words: 10, large: 1, inventories: 10,
     damaged_inventories: 18, rules: 12, read_by(odd_documents.doubled, telling): 16, read_by(odd_documents.numbered, telling): 8,
-    read_by(odd_documents.escaped, telling): 10, read_by(odd_documents.deep, telling): 14, read_by(odd_documents.near, telling): 10,
-    read_by(odd_documents.far, telling): 10, read_by(odd_documents.bare, telling): 12, read_by(odd_documents.odd_in_turn, telling): 12,
-    read_by(odd_documents.large, telling): 6, unions: 14, rehearsals: 12, sketches: 14, damaged_sketches: 16, misleading_sketches: 12,
+    read_by(odd_documents.escaped, telling): 10, read_by(odd_documents.deep, telling): 14, read_by(odd_documents.bare, telling): 12,
+    read_by(odd_documents.odd_in_turn, telling): 12, unions: 14, rehearsals: 12, sketches: 14, damaged_sketches: 16, misleading_sketches: 12,
     splits: 14, proves: 12, verifies: 14, damaged_proofs: 18, misleading_proofs: 12}
 
 
