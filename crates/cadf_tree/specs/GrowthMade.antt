@@ -5,11 +5,13 @@
 --     past o ns              ns without it
 --     compared os ns         the digests of both sets, rising, each with its kind
 --     kinds_of ms, digests_of ms      the kinds, and the digests
+--     is_changed k, starts_changed ks   k is of one of the sets alone; so is the first of ks
 --     change_shown before ks each is shown if it changed or is beside one that changed; before: the one before these changed
 --     growth_parts old new   the parts that show how the set new came of the set old
 --     IsShownGrowth, GrowthIsComplete   they are accepted under the roots of both sets, and show their difference
+--     changes_in ps          how many digests were added or are gone, by the parts
 --     GrowthIsShort          there are at most one of them and 1536 for each digest that was added or is gone
---     UnchangedIsAHash       of a set that didn't change they are its tree's hash, and of no digests no part
+--     UnchangedIsAHash       of a set that didn't change they are its tree's hash; hash_part ds: that part, and of no digests no part
 use Rattle.std.specs.Prelude.{◌≡◌, ◌≤◌, ◌+◌, ◌*◌, ℕ, Bool, true, false, ◌||◌, if◌then◌else◌, List, [], ◌∷◌, ◌++◌, length, None, Some, Ok}
 use Rattle.cadf_tree.specs.Tree.{Text, tree_hash, tree_of, root, less, IsSet}
 use Rattle.cadf_tree.specs.Pruned.{leaves_of}

@@ -1,6 +1,6 @@
 -- The parts that are made to show whether digests are in a set.
 --     first_digest ds           the first of ds
---     is_between b f a          f is above b and below a, if there are such
+--     is_above b f, is_below a f, is_between b a f   f is above b, below a, or both, if there is a b or an a
 --     kind_if z                 of both sets, or not shown
 --     asked_kinds before ds fs  each of ds is shown if one of fs is between the digests beside it: it is this one, or would be beside it; before:
 --                               the digest before these

@@ -1,9 +1,11 @@
 -- What a root that is known to be that of a set says of the roots before it, if no leaf went.
 --     without gs ds           those of ds that aren't among gs
 --     IsVouched a new ps      a is the root of the set new without what was added by the parts
+--     IsHashedForLater new ps x   the text x is hashed for the root of new, or to compute it from the parts
 --     LaterVouches            so it is if the parts are accepted under a and the root of new, and nothing went
 --     Step                    an earlier root, and the parts by which the later one came of it
---     AreSteps b steps        from the root b back: the parts of each step are accepted, and nothing went
+--     HasGrown a b ps         the parts are accepted under both roots, and nothing went
+--     AreSteps b steps        from the root b back: so it is at each step
 --     AreVouched new steps    each earlier root is that of the set before it without what was added
 --     ChainHashes new steps x the text x is hashed for one of these
 --     ChainIsVouched          one root that is known to be that of a set vouches for all that come before it
