@@ -5,12 +5,13 @@ import re
 import subprocess
 import sys
 import tarfile
+import zipfile
 
 import pytest
 
 from build import record
 from build.plan import Plan
-from install import library_files
+from install import library_files, needs
 from tests import TOP
 from tests.library.declarations import STRICT, declared
 from tests.machine import said
@@ -157,6 +158,23 @@ def test_used(packages, tmp_path):
     program = "import cadf, importlib.metadata; print(cadf.version(), cadf.__file__, importlib.metadata.version('cadf') == cadf.__version__)"
     status, told = said(sys.executable, "-c", program, env=environment, cwd=tmp_path)
     assert (status, told) == (0, "(0, 1, 0) %s True\n" % (tmp_path / IN_PYTHON / "cadf/__init__.py"))
+
+
+def test_pip_carries_what_is_built(tree, tmp_path):
+    """In the repository the package is built with the library; with one of other sources it isn't, and says so."""
+    words = ["-c", "import backend, sys; print(backend.build_wheel(sys.argv[1]))", str(tmp_path)]
+    environment = {**os.environ, "PATH": os.path.join(os.path.dirname(tree.folder), "bin") + os.pathsep + os.environ["PATH"], "CADF_LIBRARY": "/nowhere",
+                   "PYTHONDONTWRITEBYTECODE": "1"}
+    status, told = said(sys.executable, *words, cwd=os.path.join(tree.folder, "bindings", "python"), env=environment)
+    assert (status, told) == (0, "cadf-0.1.0-py3-none-manylinux_2_5_x86_64.whl\n")
+    with zipfile.ZipFile(tmp_path / told.strip()) as wheel:
+        assert needs.is_program(wheel.read("cadf/libcadf.so.0"))
+    source = os.path.join(tree.folder, "crates", library_files.CRATE, "src", "lib.rt")
+    before = read(source)
+    put(source, before + b"// More.\n")
+    status, told = said(sys.executable, *words, cwd=os.path.join(tree.folder, "bindings", "python"), env=environment)
+    put(source, before)
+    assert status == 1 and "was built of other sources" in told and "build/library makes it" in told, told
 
 
 def test_without_a_library(tree):

@@ -1,4 +1,5 @@
 """Calls of the library itself, which CADF_LIBRARY names or which is found; left out where there is none."""
+import doctest
 import os
 import sys
 import threading
@@ -28,6 +29,10 @@ class Calls(unittest.TestCase):
             call(*arguments, **named)
         self.assertEqual((caught.exception.status, caught.exception.text), (status, text))
         return caught.exception
+
+    def test_example(self):
+        failed, tried = doctest.testmod(cadf)
+        self.assertEqual((failed, tried > 0), (0, True))
 
     def test_version(self):
         self.assertEqual(len(cadf.version()), 3)
