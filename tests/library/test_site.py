@@ -8,10 +8,12 @@ import pathlib
 import pickle
 import re
 import resource
+import runpy
 import shutil
 import signal
 import subprocess
 import sys
+import warnings
 
 import pytest
 
@@ -54,6 +56,14 @@ def folder(tmp_path, monkeypatch):
     monkeypatch.setenv("CADF", os.path.join(TOP, "tests", "reference", "cadf"))
     monkeypatch.chdir(tmp_path)
     return tmp_path
+
+
+@pytest.fixture
+def anew():
+    """What the module has, run anew: what stands in no function of it is tried by this test."""
+    with warnings.catch_warnings():
+        warnings.simplefilter("ignore")  # it is there already, as this says
+        return runpy.run_module("cadf._site")
 
 
 def made(path, *documents, by="day"):
@@ -128,8 +138,8 @@ def test_what_is_not_read_to_its_end_is_ended(folder, monkeypatch):
         os.kill(number, 0)
 
 
-def test_kinds_are_those_of_the_tool():
-    assert sorted(_site.KINDS) == sorted([*cadf_question.KINDS, "grep", "match"])
+def test_kinds_are_those_of_the_tool(anew):
+    assert sorted(anew["KINDS"]) == sorted([*cadf_question.KINDS, "grep", "match"])
 
 
 # ---- What is taken
@@ -309,10 +319,10 @@ def cells(text):
     return [re.findall("<t([dh])>(.*?)</t[dh]>", row) for row in rows]
 
 
-def test_tables_are_short_and_show_texts_as_such():
+def test_tables_are_short_and_show_texts_as_such(anew):
     """At most twenty rows, of what can be printed; what a text has of HTML isn't HTML. The result isn't used up."""
-    many = made("site", document(*(event("e%02d" % number, targetId="t" * 300) for number in range(21))), by=None)
-    asked = many.events()
+    made("site", document(*(event("e%02d" % number, targetId="t" * 300) for number in range(21))), by=None)
+    asked = anew["Site"]("site").events()
     shown = cells(asked._repr_html_())
     assert len(shown) == 1 + 20 and {kind for kind, _ in shown[0]} == {"h"} and "<caption>the first 20</caption>" in asked._repr_html_()
     assert shown[20][1] == ("d", "e19") and shown[1][6] == ("d", "t" * 200 + "..")
@@ -354,7 +364,8 @@ def test_cost_of_one_event_more(cadf, folder, monkeypatch):
 # ---- Examples and pages
 
 def example(name, *words):
-    done = ended(sys.executable, [os.path.join(EXAMPLES, name), *words], env={**os.environ, "PYTHONPATH": PYTHON, "PYTHONWARNINGS": "ignore"})
+    path = os.pathsep.join(filter(None, [PYTHON, os.environ.get("PYTHONPATH")]))
+    done = ended(sys.executable, [os.path.join(EXAMPLES, name), *words], env={**os.environ, "PYTHONPATH": path, "PYTHONWARNINGS": "ignore"})
     return done.status, done.output.decode(), done.error.decode()
 
 

@@ -92,6 +92,12 @@ class Errors(unittest.TestCase):
             error = cadf.Refused(text)
             self.assertEqual((error.input, error.place, error.text, str(error)), (number, place, text, text))
 
+    def test_have_the_statuses_of_the_command_and_what_python_calls_them(self):
+        for kind, status, also in ((cadf.Refused, 1, Exception), (cadf.WrongArgument, 2, ValueError), (cadf.Failed, 3, OSError), (cadf.OutOfMemory, 4, MemoryError)):
+            error = kind("input 1: a: line 7")
+            self.assertEqual((error.status, issubclass(kind, also), issubclass(kind, cadf.CadfError), kind.__module__), (status, True, True, "cadf"))
+            self.assertEqual((str(error), error.text, error.input, error.place), ("input 1: a: line 7", "input 1: a: line 7", 1, None))
+
     def test_go_to_other_processes(self):
         error = pickle.loads(pickle.dumps(cadf.Refused("input 1: not JSON")))
         self.assertEqual((type(error), error.status, error.text, error.input), (cadf.Refused, 1, "input 1: not JSON", 1))
