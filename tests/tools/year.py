@@ -297,12 +297,12 @@ PLOTS = (a_senders_clock, a_relay_lies_and_two_rule, a_stranger_forges_a_ruling,
          a_machines_clock)
 
 
-def lived(folder, binary, days, seed=0, plots=PLOTS, tools=TOOLS):
-    """A year of so many days in a folder. Returns what was told. Failed: what wasn't, or what isn't held at the end."""
+def lived(folder, binary, days, seed=0, plots=PLOTS, tools=TOOLS, quiet=2):
+    """A year of so many days in a folder, of which the first ones are quiet. Returns what was told. Failed: what wasn't, or what isn't held at the end."""
     year, to_come, plot = Year(folder, binary, seed, tools), [], None
     while year.day < days or plot:
         year.arrive()
-        if plot is None and year.day > 1 and (days <= FORTNIGHT or year.chance.random() < 0.5):
+        if plot is None and year.day >= quiet and (days <= FORTNIGHT or year.chance.random() < 0.5):
             to_come = to_come or list(plots)
             plot = to_come.pop(0)(year)
             next(plot)
