@@ -1,7 +1,6 @@
 """How .ci/mutants judges mutants, by a prover of its own that says what the kit's prover says.
 
-The prover knows one function, and an answer by hand that fits its own body alone. The trials must find fault with a
-judge that tries no goal again, and with one that leaves a clause where it is.
+The prover knows one function, and an answer by hand that fits its own body alone.
 """
 import contextlib
 import os
@@ -54,30 +53,10 @@ def copied_crate(crate):
         yield top
 
 
-def verdicts(mutants):
-    """What the judge says in each trial."""
-    rows = [corpus.Row(CRATE, ["%s %s" % (FILE, FUNCTION), "- " + OLD, "+ " + new]) for new, _, _ in TRIALS]
-    return [[verdict for _, verdict in mutants.try_rows([row], clause)] for row, (_, clause, _) in zip(rows, TRIALS)]
-
-
-RIGHT = [[verdict] for _, _, verdict in TRIALS]
-
-
-def test_judge(mutants):
-    assert verdicts(mutants) == RIGHT
-
-
-def test_hasty_judge(mutants):
-    """One that tries no goal again is found at fault."""
-    mutants.taken_away = lambda *_: False
-    assert verdicts(mutants) != RIGHT
-
-
-def test_blind_judge(mutants):
-    """So is one that leaves a clause where it is."""
-    try_rows = mutants.try_rows
-    mutants.try_rows = lambda rows, _: try_rows(rows)
-    assert verdicts(mutants) != RIGHT
+@pytest.mark.parametrize("new, clause, wanted", TRIALS)
+def test_judge(mutants, new, clause, wanted):
+    row = corpus.Row(CRATE, ["%s %s" % (FILE, FUNCTION), "- " + OLD, "+ " + new])
+    assert [verdict for _, verdict in mutants.try_rows([row], clause)] == [wanted]
 
 
 def test_branches_go_with_their_answer(mutants):
