@@ -843,7 +843,7 @@ def test_unclosed(shared):
 @pytest.mark.parametrize("check, words, texts", [
     pytest.param(test_stopped, [], ["    return status\n\n\nif __name__ == \"__main__\":\n    sys.exit(ended(lambda: take(words())))",
                                     "    return status\n\n\nif __name__ == \"__main__\":\n    sys.exit(take(words()))"], id="what it runs goes on"),
-    pytest.param(test_withdrawn, [], ["except FileNotFoundError:\n                say(", "except FileNotFoundError:\n                raise\n                say("], id="fails for a file that is gone"),
+    pytest.param(test_withdrawn, [], ["except FileNotFoundError:\n                say(", "except FileNotFoundError:\n                self.note(\"waiting\", FAILED)\n                say("], id="fails for a file that is gone"),
     pytest.param(test_budgets, ["memory"], ["resource.setrlimit(kind, (min(most, hard), hard))", "pass"], id="no budget"),
     pytest.param(test_budgets, ["memory"], ["raise self.fault(done)\n            self.facts", "raise Waits(done.said, done.status)\n            self.facts"],
                  id="a file that costs too much waits"),
