@@ -405,8 +405,9 @@ class EventIndex:
         """How many events answer, of those that can be counted, by an hour or a day, or by what they have for a pattern of this kind first; or how many bodies may."""
         column, counts = by if by in COLUMNS else "second / %d" % LENGTHS[by] if by in LENGTHS else "others", collections.Counter()
         numbers, tests = collections.Counter(), " AND ".join([*self.where, "second IS NOT NULL" if of_bodies else IS_KNOWN])
-        for rows, change in (("bodies", numbers.update), *(() if of_bodies else ((OF_SEVERAL, numbers.subtract),))):  # which costs less than to look for each key among those of several
-            change(map(operator.itemgetter(0), self.run("SELECT %s FROM %s WHERE %s" % (column, rows, tests), self.words)))  # and this less than to have SQLite sort them
+        # To take away those of several costs less than to look for each key among them, and to count here less than to have SQLite sort.
+        for rows, change in (("bodies", numbers.update), *(() if of_bodies else ((OF_SEVERAL, numbers.subtract),))):
+            change(map(operator.itemgetter(0), self.run("SELECT %s FROM %s WHERE %s" % (column, rows, tests), self.words)))
         for number, count in (+numbers).items():
             if by in LENGTHS:
                 counts[utc(number * LENGTHS[by] * SECOND)] = count
@@ -426,6 +427,13 @@ class EventIndex:
         with self.changing():
             self.connection.executemany("INSERT OR REPLACE INTO kept VALUES (?, ?, ?, ?, ?)", ((kind, files, *row) for files, row in rows.items()))
             self.connection.executemany("DELETE FROM kept WHERE kind = ? AND files = ?", ((kind, files) for files in self.kept(kind).keys() - wanted))
+
+    def carry_over(self, part, before, after, size):
+        """Has what is kept of the files of a part be of others, of so many bytes, that have the same facts. Bodies of a window with places, which are others, stay."""
+        with self.changing():
+            self.run("UPDATE windows SET files = ?, bytes = ? WHERE name = ? AND files = ? AND id NOT IN (SELECT window FROM places)",
+                     (after, size, part, before))
+            self.run("UPDATE OR REPLACE kept SET files = ?, bytes = ? WHERE files = ?", (after, size, before))
 
     def forget(self, keys, but):
         """Forgets what is kept of these files, but for that kind."""

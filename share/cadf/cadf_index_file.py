@@ -11,7 +11,7 @@ import stat
 import urllib.parse
 
 from cadf_index import MALFORMED, EventIndex, Untrusted, files_of, read_window
-from cadf_site import INDEX
+from cadf_site import INDEX, file_name
 from cadf_toolkit import NOT_ITS_FAULT, Fault, name_shown, open_descriptor, say
 
 NAME, JOURNAL = ".index", ".index-journal"
@@ -159,6 +159,19 @@ def keep(folder, kind, rows, places=PLACES):
     """Keeps such rows of the folder's parts, if there is an index that can be written."""
     if rows:
         made_by(folder, lambda index, _: index.keep(kind, rows, wanted_of(folder)), places)
+
+
+def carry_over(folder, before, after):
+    """Has the index beside an open folder keep, of parts whose files were joined, what it has of those before: by part their digests, then and now."""
+    joined = [part for part, files in after.items() if part in before and files != before[part]]
+
+    def carried(index, mode):
+        for part in joined if mode == "rw" else ():
+            size = sum(os.stat(file_name(part, digest), dir_fd=folder.descriptor, follow_symlinks=False).st_size for digest in after[part])
+            index.carry_over(part, files_of(before[part]), files_of(after[part]), size)
+
+    if joined and is_there(folder):
+        made_by(folder, carried, [beside])
 
 
 def forget(folder, keys, but=""):

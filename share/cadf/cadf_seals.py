@@ -19,10 +19,10 @@ import cadf_state
 from cadf_index import are_as_read, files_of, size_of
 from cadf_index_file import keep, kept
 from cadf_link import Store
-from cadf_site import LARGEST, PART, UNITS, Folder, check_window, made_of_parts, order, other_unit, split, without_facts
+from cadf_site import LARGEST, PART, UNITS, Folder, check_part, made_of_parts, order, other_unit, split, without_facts
 from cadf_times import SECOND, now
 from cadf_toolkit import REFUSED, Fault, Refusal, another_program, as_input, cadf, log_name, log_of, other_log, with_advice, with_digest
-from cadf_windows import is_part
+from cadf_windows import UNIONS, is_part
 
 UNIT = re.compile(("B (%s)" % "|".join(UNITS)).encode())
 NAME_LINE = re.compile(("W (%s)" % PART).encode())
@@ -121,11 +121,15 @@ def text_of(count, root):
 
 
 class Root(NamedTuple):
-    """The root of a part: what stands for its files, count and root as a text, the bytes of the files, and when they were read whole."""
+    """The root of a part: what stands for its files, count and root as a text, the bytes of the files, and when they were read whole.
+
+    `union` is the digest of what several files hold together that were read now.
+    """
     files: bytes
     value: str
     size: int
     read: int
+    union: str = ""
 
     def found(self):
         """The count and the root, as a seal has them."""
@@ -148,13 +152,13 @@ def sealed_folder(name, damaged, jobs=1, is_full=False):
             key, at = files_of(files), now() // SECOND
             if key in known and are_as_read(files, known[key][1]) and bad.isdisjoint((part, digest) for digest in files):
                 return Root(key, *known[key])
-            for digest, file in files.items():
-                check_window(index, (part, digest), file)
+            union = check_part(index, part, files) if files else ""
             count, root = sealed(list(files.values())) if files else NOTHING
-            return Root(key, text_of(count, root), size_of(files), at)
+            return Root(key, text_of(count, root), size_of(files), at, union if len(files) > 1 else "")
 
         roots = made_of_parts([folder], None, root_of, jobs)
-        keep(folder, ROOTS, {each.files: each[1:] for each in roots.values() if each.files not in known or known[each.files] != list(each[1:])})
+        keep(folder, ROOTS, {each.files: each[1:4] for each in roots.values() if each.files not in known or known[each.files] != list(each[1:4])})
+        keep(folder, UNIONS, {each.files: (each.union, each.size, each.read) for each in roots.values() if each.union})
         seal.parts = {part: each.found() for part, each in roots.items()}
         seal.read = min((each.read * SECOND for each in roots.values()), default=None)
     return seal

@@ -36,6 +36,7 @@ SHARED = "shared"
 WINDOW = r"[0-9]{4}-[0-9]{2}(?:-[0-9]{2}(?:T[0-9]{2})?)?"
 PART = r"(?:%s|%s)" % (SHARED, WINDOW)
 DIGITS = r"[0-9a-f]{64}"
+SECOND = b"CADF-REPLICA 2\n"  # as a file of a window begins: in this format facts have one file
 ENTRY = re.compile(("F (%s) %s\n" % (PART, DIGITS)).encode())
 NAME_LINE = re.compile(("P (%s)\n" % PART).encode())  # of a split file
 WINDOW_FILE = re.compile(r"%s\.%s\.cadf" % (PART, DIGITS))
@@ -392,6 +393,15 @@ def parts_in(unit, log, inputs):
     with split(["--by", unit, "--log=" + log], inputs) as parts, open(os.devnull, "wb") as nothing:
         parts.head()
         return {part: parts.copy(nothing) for part in parts.names()}
+
+
+def check_part(index, part, files):
+    """The digest of what the files of a part hold together, by their digests. Raises why one is refused, or that it holds something else than its name says."""
+    found = parts_in(index.unit, index.name(), list(files.values()))
+    if list(found) != [part] or any((each.first(len(SECOND)), last_digest(each.file)) != (SECOND, digest) for digest, each in files.items()):
+        for digest, each in files.items():
+            check_window(index, (part, digest), each)
+    return found[part]
 
 
 def check_window(index, entry, file):
@@ -907,11 +917,17 @@ def take(name, inputs, unit=None, log=None, wait=None, limits=None):
             found.put_changed()
 
 
-def settle(name, wait=None):
-    """Joins the files of each window of the folder of that name. Says which are too large for one file, or damaged. Returns the status."""
+def settle(name, wait=None, told=None):
+    """Joins the files of each window of the folder of that name. Says which are too large for one file, or damaged. Returns the status.
+
+    `told` is given the folder, and the digests of the files of each part before and after.
+    """
     damaged = {}
     with taking(name, None, None, wait, damaged) as found:
+        before = found.index.parts()
         large = found.settle()
+        if told is not None:
+            told(found.folder, before, found.index.parts())
     for part, count in large.items():
         say("%s: the window %s is larger than a file may be, and has %d files" % (name_shown(name), part, count))
     return tell_damaged(damaged, damaged)

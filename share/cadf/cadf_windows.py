@@ -15,7 +15,7 @@ import subprocess
 import tempfile
 
 import cadf_site
-from cadf_index import files_of
+from cadf_index import files_of, size_of
 from cadf_index_file import beside, keep, kept
 from cadf_link import ENOUGH, Item, Store
 from cadf_logs import UNREADABLE, atoms
@@ -25,7 +25,6 @@ from cadf_toolkit import (DIFFERS, LAST, LAST_LINE, MEMORY, Fault, Input, Refusa
 ALL, SHARED = "all", cadf_site.SHARED
 UNITS = {length: unit for unit, length in cadf_site.UNITS.items()}
 UNIONS = "union 1"  # the kind under which the index keeps them
-SECOND = b"CADF-REPLICA 2\n"
 DIGEST_BYTES, CELL_BYTES = 65, 81  # of a line
 NODE = re.compile(rb"\[([1-9][0-9]*),([01]),")
 BLOCK = 2 ** 16  # bytes that are read at once
@@ -102,7 +101,7 @@ class FileSite:
 
     def __init__(self, input):
         self.input, self.parts = input, {}
-        if input.first(len(SECOND)) != SECOND or None in (input.log(), last_digest(input.file)):
+        if input.first(len(cadf_site.SECOND)) != cadf_site.SECOND or None in (input.log(), last_digest(input.file)):
             self.input = made(["join"], [input], input.name)
         self.log = self.input.log()
 
@@ -158,8 +157,8 @@ class FolderSite:
             key = files_of(files)
             if len(files) > 1 and key not in known:
                 with contextlib.suppress(LeftOut), self.opened(part) as inputs:
-                    key = files_of(digest for _, digest in inputs)
-                    known[key] = new[key] = union_digest(list(inputs.values())), 0, 0
+                    key, size = files_of(digest for _, digest in inputs), size_of({digest: each for (_, digest), each in inputs.items()})
+                    known[key] = new[key] = union_digest(list(inputs.values())), size, 0
             # A part that can't be read is equal to none, so it is asked for, and why is found again.
             found[part] = files[0] if len(files) == 1 else known[key][0] if key in known else secrets.token_hex(32)
         keep(self.folder, UNIONS, new, [beside])

@@ -177,6 +177,22 @@ def test_an_event_in_each_window_costs_what_its_sender_may(tmp_path, cadf, tools
     assert 0 < size <= SHARE * (max(files) + (tmp_path / "sent.cadf").stat().st_size), (size, files)
 
 
+@pytest.mark.xdist_group("costs")
+def test_what_settling_joins_is_not_read_again(tmp_path, cadf, tools):
+    """Roots that are kept stay those of the windows whose files were joined, which have the same facts; and a window of one file has its digest by its name."""
+    place = Place(tmp_path, cadf, tools)
+    place.put("sent.cadf", facts(*(dict(honest(day, 0), id="y%d" % day) for day in range(1, DAYS + 1))))
+    for site in "site/", "other/":
+        place.run("cadf-take", site, "more.cadf", "sent.cadf")
+    place.run("cadf-take", "--settle", "other/")
+    seal = place.run("cadf-seal", "site/").output
+    assert place.counted("cadf-agree", "site/", "other/") == (0, 0)  # the seal has kept what it has read
+    place.run("cadf-take", "--settle", "site/")
+    assert len(list((tmp_path / "site").glob("2024-*"))) == 3 * DAYS  # what was joined goes at the next take
+    assert place.counted("cadf-seal", "site/") == place.counted("cadf-agree", "site/", "other/") == (0, 0)
+    assert place.run("cadf-seal", "site/").output == place.run("cadf-seal", "--full", "site/").output == seal
+
+
 # ---- An event whose texts are long
 
 SAID = r'(?m)^cadf-[a-z]+: left out %s, whose texts have \d+ bytes: give more by --largest, or have `cadf show` write it$'

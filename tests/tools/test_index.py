@@ -239,6 +239,39 @@ def test_only_changed_windows_are_read_again(tmp_path, monkeypatch):
     assert planned(folder) == rows and not read_files
 
 
+class Whole:
+    """Chance by which a folder has one file a part."""
+    randrange, choice = (lambda *_: 1), (lambda _, each: each[0])
+
+
+def test_windows_whose_files_were_joined(tmp_path, monkeypatch):
+    """What it has of them stays, as what else is kept of them does; those are read again in which a key has several bodies, whose places are others."""
+    chance, read_files, folder = random.Random(9), [], tmp_path / "site"
+    plain = [dict(event(chance, "plain%d" % number), eventTime="2024-06-%02dT00:00:00Z" % (1 + number % 5)) for number in range(30)]
+    atoms = facts(chance, 60) | document({"id": LOG, "events": plain})[1]
+    folder_of(folder, atoms, "day", chance)
+    several = set().union(*planned(folder, lambda index, _: index.several()).values())
+    with Folder(str(folder)) as site:
+        before = site.site().parts()
+        cadf_index_file.keep(site, "root 1", {cadf_index.files_of(files): ("7 x", 1, 5) for files in before.values()})
+    (folder / ".index").rename(tmp_path / "index")
+    shutil.rmtree(folder)
+    folder_of(folder, atoms, "day", Whole())
+    (tmp_path / "index").rename(folder / ".index")
+    with Folder(str(folder)) as site:
+        after = site.site().parts()
+        cadf_index_file.carry_over(site, before, after)
+        kept = cadf_index_file.kept(site, "root 1")
+    sizes = {part: (folder / file_name(part, *files)).stat().st_size if files != before[part] else 1 for part, files in after.items()}
+    assert kept == {cadf_index.files_of(files): ["7 x", sizes[part], 5] for part, files in after.items()}
+    contents = cadf_index.contents
+    monkeypatch.setattr(cadf_index, "contents", lambda digest, each: read_files.append(digest) or contents(digest, each))
+    rows, joined = planned(folder), {part: files for part, files in after.items() if files != before[part] and part != "shared"}
+    assert sorted(read_files) == sorted(files[0] for part, files in joined.items() if part in several) and joined.keys() - several
+    shutil.copytree(folder, tmp_path / "new", ignore=lambda *_: [".index"])
+    assert rows == planned(tmp_path / "new")
+
+
 def windows_in(folder):
     with Folder(str(folder)) as site:
         return {part: digests for part, digests in site.site().parts().items() if part != "shared"}

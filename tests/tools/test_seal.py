@@ -464,9 +464,9 @@ def test_roots_of_another_tree_serve_nobody(seals):
 # ---- Copies that do wrong
 
 @pytest.mark.parametrize("check, right, wrong", [
-    (test_seal_of_a_folder, "sealed(list(files.values()))", "sealed(list(files.values())[:1])"),
+    (test_seal_of_a_folder, "root = sealed(list(files.values()))", "root = sealed(list(files.values())[:1])"),
     (test_seal_of_a_folder, "itertools.starmap(self.lines, self.parts.items())", "itertools.starmap(self.lines, sorted(self.parts.items()))"),
-    (test_a_fact_in_another_window_is_refused, "                check_window(index, (part, digest), file)\n", ""),
+    (test_a_fact_in_another_window_is_refused, "check_part(index, part, files) if files else \"\"", "\"\""),
     (test_windows, "= self.parts.get(part, NOTHING)\n", "= self.parts.get(part, (1, NOTHING[1]))\n"),
     (test_windows, "B (%s)\" % \"|\".join(UNITS)", "B (%s)\" % \"|\".join([*UNITS][::2])"),
     (test_compare_of_as_many_facts, "sorted({*then.parts, *now.parts} - damaged.keys(), key=order)", "sorted(now.parts, key=order)"),

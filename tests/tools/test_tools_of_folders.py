@@ -437,9 +437,9 @@ def test_spool_keeps_what_begins_many_windows(sites):
 
 @pytest.mark.parametrize("check, right, wrong", [
     (test_agree_reads_windows_that_differ, "made_of_parts([each.site for each in sides], None,", "made_of_parts([each.site for each in sides], sorted(first.index.parts())[1:],"),
-    (test_agree_reads_windows_that_differ, "if keys[0] == keys[1] or len(told) == 2", "if len(told) == 2"),
+    (test_agree_reads_windows_that_differ, "rows[0][0] is not None and rows[0][0] == rows[1][0]", "True"),
     (test_agree_of_windows_of_several_files, "[*site.inputs, sketch.input], len(site.inputs))", "[site.inputs[0], sketch.input])"),
-    (test_agree_keeps_digests_of_windows, "len(told) == 2 and told[0] == told[1]", "False"),
+    (test_agree_keeps_digests_of_windows, "rows[0][0] is not None and rows[0][0] == rows[1][0]", "False"),
     (test_which_judges_each_file, "if list(parts_in(index.unit, index.name(), [file]).items()) != [entry]:", "if False:"),
     (test_which_names_all_that_is_damaged, "        return Fault(\"%s: not there: %s\"", "        raise Fault(\"%s: not there: %s\""),
     (test_a_key_of_two_windows_is_open, "range(max(map(len, found.values()), default=0))", "range(1)"),
