@@ -110,13 +110,13 @@ def test_file_and_folder_show_the_same(cadf, tmp_path, seed):
     ("own.of([*inputs, *rulings], lambda", "own.of(inputs, lambda"),
     ("        rulings = windows.ruled_of(windows.common)\n", "        rulings = []\n"),
     ("opened(windows.ruled(window))", "opened([])"),
-    ("        return name, own.open, own.long", "        return name, 0, own.long"),
+    ("at, bodies, is_first = map(int, numbers)", "at, bodies, is_first = *map(int, numbers[:2]), 0"),
     ("self.of([*facts, *rulings])", "self.of([*facts])"),
     (", *(self.of_facts(name, inputs) for name in windows.facts),", ","),
     ("utc(limits.until - 1)[:length]", "utc(limits.until - 1)[:length - 1]"),
     ("            if len(parts) > 1:", "            if len(parts) > 2:"),
     ("    return at, identifier, line, bodies", '    return event["eventTime"], identifier, line, bodies'),
-    ("self.open += bool(answering)", "self.open += 1"),
+    ("self.open += is_first", "self.open += bool(bodies)"),
 ])
 def test_wrong_versions_are_caught(cadf, tmp_path, right, wrong):
     tools = copied(tmp_path / "copy", right, wrong)
