@@ -23,18 +23,9 @@ INSTALL = os.path.join(TOP, "install", "install")
 TOOLS = sorted(name for name in os.listdir(os.path.join(TOP, "tools")) if os.path.isfile(os.path.join(TOP, "tools", name)))
 GUIDES = ("TUTORIAL", "GUIDE", "ERRORS", "GLOSSARY", "OPENSTACK", "REPORT", "OPERATING", "SECURITY", "LIBRARY", "PERFORMANCE", "SYNC", "SEALS")
 LONG_OPTION = re.compile(r"(?<![\w-])--[a-z][a-z-]*")
-# What is installed beside the tools, the pages of docs/ and the examples that have a folder.
+# What is installed beside the tools, the parts of share/, the pages of docs/ and the examples that have a folder.
 PLACES = """
-bin/cadf share/man/man1/cadf.1 share/bash-completion/completions/cadf share/zsh/site-functions/_cadf
-share/cadf/cadf_budget.py share/cadf/cadf_children.py share/cadf/cadf_database.py share/cadf/cadf_formats.py
-share/cadf/cadf_index.py share/cadf/cadf_index_file.py
-share/cadf/cadf_keys.py share/cadf/cadf_ledgers.py share/cadf/cadf_lengths.py share/cadf/cadf_link.py share/cadf/cadf_logs.py
-share/cadf/cadf_metrics.py share/cadf/cadf_part.py share/cadf/cadf_plan.py share/cadf/cadf_question.py share/cadf/cadf_repair.py share/cadf/cadf_rest.py
-share/cadf/cadf_seals.py share/cadf/cadf_site.py share/cadf/cadf_spool.py share/cadf/cadf_state.py share/cadf/cadf_times.py
-share/cadf/cadf_toolkit.py share/cadf/cadf_windows.py share/cadf/version
-share/cadf/report/conflicts.js share/cadf/report/events.js share/cadf/report/evidence.js share/cadf/report/filters.js share/cadf/report/guard.js
-share/cadf/report/page.css share/cadf/report/page.html share/cadf/report/page.js share/cadf/report/pairs.js
-share/cadf/report/reporters.js share/cadf/report/sites.js share/cadf/report/timeline.js share/cadf/report/values.js
+bin/cadf share/cadf/version
 share/doc/cadf/installed share/doc/cadf/README.md share/doc/cadf/CHANGELOG.md share/doc/cadf/CONTRIBUTING.md share/doc/cadf/bench/RESULTS.md
 share/doc/cadf/sbom.spdx.json
 """
@@ -175,11 +166,12 @@ def test_places(prefix):
     found = {str(path.relative_to(prefix)) for path in prefix.rglob("*") if not path.is_dir()}
     doc = "share/doc/cadf/"
     pages = {doc + "docs/" + name for name in os.listdir(os.path.join(TOP, "docs"))}
-    examples = {doc + "examples/%s/%s" % (folder, name) for folder in ("vectors", "real")
+    examples = {doc + "examples/%s/%s" % (folder, name) for folder in ("vectors", "real", "library")
                 for name in os.listdir(os.path.join(TOP, "examples", folder))}
     units = {UNITS[kind] % name for name, kind in map(os.path.splitext, os.listdir(os.path.join(TOP, "examples", "systemd")))}
     programs = {"bin/" + tool for tool in TOOLS} | {"share/man/man1/%s.1" % tool for tool in TOOLS}
-    wanted = pages | examples | programs | units | set(PLACES.split())
+    parts = {name for name in tracked() if name.startswith("share/")}
+    wanted = pages | examples | programs | units | parts | set(PLACES.split())
     assert sorted(wanted - found) == []
     assert sorted(place for place in found - wanted if not place.startswith((doc + "examples/", doc + "bindings/", "lib/", "include/"))) == []
 
