@@ -3,6 +3,7 @@ import hashlib
 import json
 import os
 import random
+import re
 
 import pytest
 
@@ -16,6 +17,7 @@ from tests.reference.shown_texts import log_text, values_by_key
 from tests.reference.split_files import in_order, parts_of
 from tests.reference.times import time_of
 from tests.tools.copies import copied
+from tests.tools.test_report import Data
 
 LOG = 'north "1" \u00e9'
 EVENT = {"eventType": "activity", "action": "read", "outcome": "success", "initiatorId": "u1", "targetId": "t1", "observerId": "s1"}
@@ -169,7 +171,8 @@ def test_lists_and_pages_of_a_folder_are_those_of_a_file(cadf, tmp_path, words):
     (tmp_path / "file").write_bytes(file_of(LOG, atoms))
     sites = str(tmp_path / "file"), folder_of(tmp_path / "folder", atoms, "day", chance)
     answers = [ended(os.path.join(TOP, "tools", words[0]), [*words[1:], "--", site], env=dict(os.environ, CADF=cadf)) for site in sites]
-    assert answers[0] == answers[1] and answers[0].output and answers[0].status in (0, 5)
+    pages = [answer._replace(output=re.sub(b'<div id="seal">.*', b"", answer.output)) for answer in answers]  # a folder has a seal of another kind
+    assert pages[0] == pages[1] and pages[0].output and pages[0].status in (0, 5)
 
 
 def test_a_page_of_a_range_has_a_body_of_another_window(cadf, tmp_path):
@@ -178,4 +181,4 @@ def test_a_page_of_a_range_has_a_body_of_another_window(cadf, tmp_path):
     folder = folder_of(tmp_path / "folder", document({"id": LOG, "events": events})[1], "day", random.Random(0))
     answer = ended(os.path.join(TOP, "tools", "cadf-report"), ["--since", "2024-03-01", "--until", "2024-03-02", folder],
                    env=dict(os.environ, CADF=cadf))
-    assert answer.status == 0 and TIMES[6].encode() in answer.output
+    assert answer.status == 0 and TIMES[6] in json.dumps(Data(answer.output).data)
