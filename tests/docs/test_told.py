@@ -1,26 +1,16 @@
 """What the pages say in numbers: exit statuses, limits and defaults are those that the tests and the programs have."""
-import functools
 import os
 import re
 import runpy
-import subprocess
 
 import pytest
 
 from tests import TOP, text_of
 from tests.command import test_statuses
+from tests.docs import stated
 from tests.reference import events, json_text, sketch_files
 from tests.tables import rows
 
-TOOLS = sorted(name for name in os.listdir(os.path.join(TOP, "tools")) if name.startswith("cadf-"))
-USERS = "README.md docs/SECURITY.md docs/GUIDE.md docs/ERRORS.md docs/LIBRARY.md"  # a limit is in the page of its kind
-
-
-@functools.lru_cache(None)
-def help_of(tool):
-    """The help of a tool, on a terminal that is wider than a page."""
-    words, environment = [os.path.join(TOP, "tools", tool), "--help"], dict(os.environ, COLUMNS="150")
-    return subprocess.run(words, check=True, env=environment, stdout=subprocess.PIPE, universal_newlines=True).stdout
 
 
 def told():
@@ -65,23 +55,20 @@ def test_statuses_of_readme():
     assert statuses("out of memory") == {4}
 
 
-@pytest.mark.parametrize("name, text", [
-    ("docs/FORMATS.md", "Lists and objects nest at most %d" % json_text.DEEPEST), ("docs/FORMATS.md", "**Nesting** above %d is refused" % json_text.DEEPEST),
-    ("docs/FORMATS.md", "lists of at most %d steps" % events.LONGEST_CHAIN), ("docs/FORMATS.md", "multiple of 3 from 3 to {:,}".format(sketch_files.MOST_CELLS)),
-    ("docs/FORMATS.md", "text of 1 to {:,} UTF-8 bytes".format(events.LONGEST_NAME)), ("docs/FORMATS.md", "nest at most %d deep. A chain has 1 to %d steps" % (
-        events.DEEPEST_PART, events.LONGEST_CHAIN)),
-    (USERS, "1 to {:,} bytes without control characters".format(events.LONGEST_NAME)), (USERS, "at most %d steps" % events.LONGEST_CHAIN),
-    (USERS, "nest at most %d deep" % events.DEEPEST_PART),
+@pytest.mark.parametrize("text", [
+    "**Nesting** above %d is refused" % json_text.DEEPEST, "multiple of 3 from 3 to {:,}".format(sketch_files.MOST_CELLS),
+    "text of 1 to {:,} UTF-8 bytes".format(events.LONGEST_NAME),
 ])
-def test_limit(name, text):
-    """The pages have the limits at which the second implementation refuses, which the rows try on both sides: of several, one."""
-    assert any(text in text_of(each).replace("\n", " ") for each in name.split() if os.path.exists(os.path.join(TOP, each)))
+def test_limit(text):
+    """FORMATS has the limits at which the second implementation refuses, which the rows try on both sides; those with a unit
+    tests/docs/stated.py looks up."""
+    assert text in text_of("docs", "FORMATS.md").replace("\n", " ")
 
 
-@pytest.mark.parametrize("tool", TOOLS)
+@pytest.mark.parametrize("tool", stated.tools())
 def test_help(tool):
     """The help of a tool has at most 100 columns, and a text for each word that the tool takes."""
-    said = help_of(tool)
+    said = stated.help_of(tool)
     assert [line for line in said.splitlines() if len(line) > 100] == []
     said = re.sub(r"\nExamples:\n(?:  .*\n)+", "\n", said)  # of which test_help.py has more
     words = re.split(r"\n  (?=\S)", said.split("\npositional arguments:")[-1].split("\noptions:")[0] + said.split("\noptions:")[1])[1:]

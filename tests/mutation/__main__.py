@@ -5,8 +5,8 @@
     python3 -m tests.mutation --changed [COMMIT] [--jobs 2]
     python3 -m tests.mutation --list [--area AREA].. [NAME..]
 
-The Python programs are those of tools/, share/cadf/, build/, install/, bindings/python/ and the second implementation; the
-other texts are the scripts of the report's page, the header for C, units, maintainer scripts and completions. AREAS has
+The Python programs are those of tools/, share/cadf/, build/, install/, bindings/python/, .ci/ and the second implementation; the
+other texts are the scripts of the report's page, the header for C, units, maintainer scripts, completions and the pages. AREAS has
 them, each with its name, and operators.py and texts.py beside this say what a mutant is. Without --changed a sample is tried:
 COUNT of each area, chosen by SEED; NAMEs choose the mutants whose names begin so. With --changed all of the lines that differ
 from COMMIT, HEAD~1 unless it is given. Nothing is tried in the tree: each job has a copy of it.
@@ -52,10 +52,12 @@ class Area(NamedTuple):
 AREAS = {
     "tools": Area(r"tools/cadf-[\w-]+"), "share": Area(r"share/cadf/\w+\.py"), "build": Area(r"build/[\w-]+(\.py)?"),
     "install": Area(r"install/\w+(\.py)?"), "bindings": Area(r"bindings/python/.*\.py"), "reference": Area(r"tests/reference/\w+(\.py)?"),
+    "gate": Area(r"\.ci/\w+(\.py)?"),
     "page": Area(r"share/cadf/report/\w+\.js", texts.of_script, " tests/tools/test_report%s.py" * 6 % ("_meaning", "_page", "_part", "_evidence", "_questions", "")),
     "header": Area(r"bindings/c/cadf\.h", texts.of_script, "tests/library/test_header.py"),
     "units": Area(r"examples/(systemd|monitoring)/.*", texts.of_lines, "tests/package/test_units.py tests/package/test_monitoring.py"),
     "scripts": Area(r"install/debian/cadf\.p\w+", texts.of_lines, "tests/package/test_maintainer_scripts.py"),
+    "pages": Area(r"(README|docs/\w+)\.md", texts.of_page, "tests/docs/test_told.py tests/docs/test_words.py tests/docs/test_stated.py"),
     "completions": Area(r"share/(bash-completion|zsh)/.*", texts.of_lines, "tests/package/test_installed.py"),
 }
 KEPT = os.path.join(TOP, ".build", "mutation", "covered.json")

@@ -1,6 +1,7 @@
 """The mutants of texts that are no Python: of scripts by patterns, of units and the like by lines, of pages by what they state."""
 import re
 
+from tests.docs import stated
 from tests.mutation.operators import Mutant
 
 CODE = r"(?<=\()([\w *&.]+), ([\w *&.]+)(?=[,)])"
@@ -36,11 +37,15 @@ LINES = [
 COMMENT = re.compile(r"/\*[\s\S]*?\*/|(?<![:\"'])//.*|^#.*", re.M)
 
 
-def mutants(operators, file, text):
-    """The mutants of a text by these operators, given its bytes, in the order of its lines; none is in a comment."""
+BLOCK = re.compile(r"(?ms)^ *```.*?^ *```$|^    [^\n]*$")  # of a page: what it shows of files and commands
+
+
+def mutants(operators, file, text, left_out=COMMENT):
+    """The mutants of a text by these operators, given its bytes, in the order of its lines; none is in a comment, or what else is left
+    out."""
     string = text.decode()
     lines = string.split("\n")
-    comments = [found.span() for found in COMMENT.finditer(string)]
+    comments = [found.span() for found in left_out.finditer(string)]
     made = set()
     for operator, pattern, change in operators:
         for found in re.finditer(pattern, string, re.M):
@@ -58,3 +63,34 @@ def of_script(file, text):
 
 def of_lines(file, text):
     return mutants(LINES, file, text)
+
+
+# ---- What a page states
+
+def number_like(found):
+    """Another number, of as many digits or one more."""
+    number, figure = found[1] or found[4], found[0]
+    return figure.replace(number, "%s0" % number if number[-1] == "0" else str(int(number[-1]) + 1).join([number[:-1], ""]), 1)
+
+
+def without_a_letter(found):
+    """A word without one of its letters, the last but one."""
+    return found[0][:-2] + found[0][-1]
+
+
+def without_a_word(found):
+    """Words without the one in their middle."""
+    words = found[0].split(" ")
+    return " ".join(words[:len(words) // 2] + words[len(words) // 2 + 1:])
+
+
+def of_page(file, text):
+    options = sorted(set().union(*map(stated.options, ["cadf", *stated.tools()])))
+    after = dict(zip(options, options[1:] + options[:1]))
+    return mutants([
+        ("number", stated.NUMBER.pattern, number_like),
+        ("option", r"(?<=[` \[])--[a-z][a-z-]*(?=[^`\n]*`)", lambda found: after.get(found[0], found[0] + "s")),
+        ("option", r"(?<=`)--[a-z][a-z-]*(?=[^`\n]*`)", without_a_letter),
+        ("name", r"(?<=`)[\w./-]{4,}(?=`)", without_a_letter),
+        ("message", r"(?<=`)[A-Za-z](?!adf[ -]|pg )[^`\n|()]* [^`\n|()]* [^`\n|()]*(?=`)", without_a_word),
+    ], file, text, BLOCK)
