@@ -326,10 +326,13 @@ def pages():
 
 
 def main():
-    for name in sys.argv[1:] or pages():
-        for said, wrong in (*unstated(name, text_of(name)), *wrong_numbers(name, text_of(name))):
-            print("stated: %s: `%s`: %s" % (name, said, wrong))
+    named = sys.argv[1:] or pages()
+    found = [(name, *each) for name in named for each in (*unstated(name, text_of(name)), *wrong_numbers(name, text_of(name)))]
+    for each in found:
+        print("stated: %s: `%s`: %s" % each)
+    print("stated: %d pages, %d faults" % (len(named), len(found)))
+    return 1 if found else 0
 
 
 if __name__ == "__main__":
-    main()
+    sys.exit(main())
