@@ -1,6 +1,7 @@
 mod AlikeLines
 mod EqualSeals
 mod GrownSets
+mod MadeProofs
 mod MarkedLemmas
 mod ProofLineLemmas
 mod SealLemmas

@@ -3,6 +3,7 @@ pub mod Growth
 pub mod Marked
 pub mod ProofFile
 pub mod ProofLines
+pub mod ProofMade
 pub mod ProofVerdict
 pub mod SealFile
 pub mod SealLines

@@ -1,5 +1,6 @@
 -- The seal of a replica, and its file.
---     seal_of held          the seal: its log, the root over the digests of its atoms, and the root over those of their keys
+--     seal_over facts keys  the seal of an inventory of facts and one of their keys
+--     seal_of held          that of a replica: its log, the root over the digests of its atoms, and the root over those of their keys
 --     seal_lines s          the lines between the log line and the digest line: the count and the root of the facts, and of the keys
 --     seal_body s           the lines before the digest line
 --     seal_file s           the file
@@ -12,10 +13,10 @@ use Rattle.cadf_join.specs.Contents.{Text}
 use Rattle.cadf_join.specs.Sets.{rising}
 use Rattle.cadf_event.specs.LogName.{is_name_text}
 use Rattle.cadf_key.specs.Keys.{keys_of}
-use Rattle.cadf_line.specs.Digest.{IsDigest, atom_digest}
-use Rattle.cadf_line.specs.Missing.{digests_of}
+use Rattle.cadf_line.specs.Digest.{IsDigest}
 use Rattle.cadf_linefile.specs.Lines.{text_of_lines}
 use Rattle.cadf_linefile.specs.Verdict.{log_line, with_digest_line}
+use Rattle.cadf_set.specs.Inventory.{InventoryModel, inventory_of}
 use Rattle.cadf_set.specs.Replica.{ReplicaModel}
 use Rattle.cadf_tree.specs.Tree.{root}
 use Rattle.cadf_tree.specs.declared.tree.Root.{Root}
@@ -33,8 +34,11 @@ coded_seal =
     code_by (Text × (Root × Root)) (coded× (coded_list coded_ℕ) (coded× coded_root coded_root)) (λ s. (s.log, (s.facts, s.keys)))
     (λ p. record { log = p.0; facts = p.1.0; keys = p.1.1 }) (λ _. refl)
 
+abbrev pub seal_over : InventoryModel → InventoryModel → SealModel
+seal_over facts keys = record { log = facts.log; facts = root (rising facts.digests); keys = root (rising keys.digests) }
+
 abbrev pub seal_of : ReplicaModel → SealModel
-seal_of held = record { log = held.log; facts = root (rising (digests_of atom_digest held.atoms)); keys = root (rising (keys_of held.atoms)) }
+seal_of held = seal_over (inventory_of held) (record { log = held.log; digests = keys_of held.atoms })
 
 -- ---- the file
 

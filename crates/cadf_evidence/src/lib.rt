@@ -4,6 +4,7 @@
 mod fault;
 mod growth;
 mod laws;
+mod made;
 mod marked;
 mod proof;
 mod proof_lines;

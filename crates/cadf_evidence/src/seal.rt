@@ -3,7 +3,7 @@ ghost use Rattle.std.specs.Prelude.{◌≡◌, ◌<◌, ◌^◌, length, IfOk};
 ghost use Rattle.cadf_join.specs.Sets.{rising};
 ghost use Rattle.cadf_event.specs.Known.{IsNameText};
 ghost use Rattle.cadf_tree.specs.Tree.{root};
-ghost use Rattle.cadf_evidence.specs.SealFile.{IsRoot, seal_of};
+ghost use Rattle.cadf_evidence.specs.SealFile.{IsRoot, seal_of, seal_over};
 
 use cadf_event::Name;
 use cadf_json::Memory;
@@ -38,9 +38,19 @@ impl Seal {
     pub fn of(alloc: Global, replica: &Replica) -> Result<Seal, Memory>
         ensures { IfOk result (λ s. s ≡ seal_of replica.now) }
     {
-        let facts = root_over(alloc, &replica.inventory()?)?;
-        let keys = root_over(alloc, &keys_of(alloc, replica)?)?;
-        let log = replica.log().copy(alloc)?;
+        let facts = replica.inventory()?;
+        let keys = keys_of(alloc, replica)?;
+        Seal::over(alloc, &facts, &keys)
+    }
+
+    /// Makes the seal of an inventory of facts, under its log, and an inventory of their keys. `Memory` if an allocation
+    /// fails.
+    pub fn over(alloc: Global, facts: &Inventory, keys: &Inventory) -> Result<Seal, Memory>
+        ensures { IfOk result (λ s. s ≡ seal_over facts.now keys.now) }
+    {
+        let log = facts.log().copy(alloc)?;
+        let facts = root_over(alloc, facts)?;
+        let keys = root_over(alloc, keys)?;
         Ok(Seal { log, facts, keys })
     }
 
@@ -85,7 +95,7 @@ fn root_over(alloc: Global, inventory: &Inventory) -> Result<Root, Memory>
 }
 
 /// Lists the inventory's digests, ascending.
-fn digests_of(alloc: Global, inventory: &Inventory) -> Result<Vec<[u8; 32]>, Memory>
+pub(crate) fn digests_of(alloc: Global, inventory: &Inventory) -> Result<Vec<[u8; 32]>, Memory>
     ensures digests { IfOk result (λ digests. digests.items ≡ rising inventory.now.digests) }
     ensures fits { IfOk result (λ digests. length digests.items < 2 ^ 63) }
 {

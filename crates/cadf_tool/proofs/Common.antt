@@ -61,8 +61,8 @@ pub use Rattle.cadf_log.specs.ReadBack.{IsConflictTextOf, IsLogTextOf}
 unfoldable pub use Rattle.cadf_log.specs.Texts.{log_text}
 pub use Rattle.cadf_rehearsal.specs.declared.turn.Turn.{Turn as Step}
 pub use Rattle.cadf_scan.specs.Instants.{body_instant}
-pub use Rattle.cadf_seal.specs.ProofFile.{ProofModel}
-pub use Rattle.cadf_seal.specs.SealFile.{SealModel, seal_file}
+pub use Rattle.cadf_evidence.specs.ProofFile.{ProofModel}
+pub use Rattle.cadf_evidence.specs.SealFile.{SealModel, seal_file}
 pub use Rattle.cadf_set.proofs.ContributionLaws.{document_kept, kept_empty, kept_union, ruling_kept}
 pub use Rattle.cadf_set.proofs.History.{apart_by_digests, apart_by_replicas, contains_listed, in_union_all, listed_contains, listed_within, of_union_all, replica_is_held, same_held, union_all_append}
 pub use Rattle.cadf_set.proofs.InLogOrConflicts.{apart, apart as parts_apart, together as parts_together, together}

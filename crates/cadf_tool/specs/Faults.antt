@@ -2,8 +2,8 @@
 use Rattle.std.specs.Prelude.{ℕ, Bool, true, false, Result, Ok, Err}
 use Rattle.cadf_json.specs.declared.transfer.OutFault.{OutFault}
 use Rattle.cadf_json.specs.declared.transfer.OutFault.TheVariants.{WriteFault as OutWriteFault, Memory as OutMemory}
-use Rattle.cadf_seal.specs.declared.verify.VerifyFault.{VerifyFault}
-use Rattle.cadf_seal.specs.declared.verify.VerifyFault.TheVariants as verify
+use Rattle.cadf_evidence.specs.declared.verify.VerifyFault.{VerifyFault}
+use Rattle.cadf_evidence.specs.declared.verify.VerifyFault.TheVariants as verify
 use Rattle.cadf_tool.specs.declared.input.LoadFault.{LoadFault}
 use Rattle.cadf_tool.specs.declared.input.LoadFault.TheVariants.{File, TooLarge, ReadFault, Json, Document, Memory}
 use Rattle.cadf_tool.specs.declared.fault.ToolFault.{ToolFault}

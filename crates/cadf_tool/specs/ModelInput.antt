@@ -11,10 +11,10 @@ use Rattle.cadf_linefile.specs.declared.fault.FileFault.{FileFault}
 use Rattle.cadf_linefile.specs.declared.fault.FileFault.TheVariants.{Trailing, ReadFault, Memory}
 use Rattle.cadf_linefile.specs.declared.file_feed.TheConstants.{FILE_LIMIT}
 use Rattle.cadf_linefile.specs.ModelKind.{ModelKind, file_of, decided_of, verdict_of}
-use Rattle.cadf_seal.specs.ProofFile.{ProofModel, IsProof}
-use Rattle.cadf_seal.specs.ProofVerdict.{proof_kind}
-use Rattle.cadf_seal.specs.SealFile.{SealModel, IsSeal}
-use Rattle.cadf_seal.specs.SealVerdict.{seal_kind}
+use Rattle.cadf_evidence.specs.ProofFile.{ProofModel, IsProof}
+use Rattle.cadf_evidence.specs.ProofVerdict.{proof_kind}
+use Rattle.cadf_evidence.specs.SealFile.{SealModel, IsSeal}
+use Rattle.cadf_evidence.specs.SealVerdict.{seal_kind}
 use Rattle.cadf_set.specs.Inventory.{InventoryModel}
 use Rattle.cadf_sketch.specs.Sketches.{SketchModel}
 use Rattle.cadf_sketch.specs.SketchFile.{IsSketch}

@@ -8,8 +8,8 @@ use Rattle.cadf_json.specs.declared.stream.Source.{Ghosts as Source}
 use Rattle.cadf_json.specs.declared.stream.Sink.{Ghosts as Sink}
 use Rattle.cadf_join.specs.Contents.{Text}
 use Rattle.cadf_inventory.specs.InventoryFile.{inventory_file}
-use Rattle.cadf_seal.specs.ProofFile.{ProofModel, proof_file}
-use Rattle.cadf_seal.specs.SealFile.{SealModel, seal_file}
+use Rattle.cadf_evidence.specs.ProofFile.{ProofModel, proof_file}
+use Rattle.cadf_evidence.specs.SealFile.{SealModel, seal_file}
 use Rattle.cadf_rehearsal.specs.declared.turn.Turn.{Turn}
 use Rattle.cadf_set.specs.Replica.{ReplicaModel}
 use Rattle.cadf_sketch.specs.SketchFile.{sketch_file}

@@ -3,10 +3,10 @@
 --     verdict_of absent inputs               the same of three inputs: a seal, the facts, and a proof
 use Rattle.std.specs.Prelude.{ℕ, nat_eq, Bool, List, length, Some, if◌then◌else◌, Result, Ok, Err}
 use Rattle.cadf_join.specs.Sets.{rising}
-use Rattle.cadf_seal.specs.ProofFile.{ProofModel}
-use Rattle.cadf_seal.specs.SealFile.{SealModel}
-use Rattle.cadf_seal.specs.Verified.{verified}
-use Rattle.cadf_seal.specs.declared.verify.VerifyFault.{VerifyFault}
+use Rattle.cadf_evidence.specs.ProofFile.{ProofModel}
+use Rattle.cadf_evidence.specs.SealFile.{SealModel}
+use Rattle.cadf_evidence.specs.Verified.{verified}
+use Rattle.cadf_evidence.specs.declared.verify.VerifyFault.{VerifyFault}
 use Rattle.cadf_set.specs.Replica.{ReplicaModel}
 use Rattle.cadf_tool.specs.declared.input.Loaded.{Loaded}
 use Rattle.cadf_tool.specs.declared.fault.ToolFault.{ToolFault}

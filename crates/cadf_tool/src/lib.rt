@@ -41,7 +41,7 @@ pub use cadf_event::{Document, DocumentFault, Name};
 pub use cadf_file::{FILE_LIMIT, FileFault};
 pub use cadf_json::{Failed, JsonFault, Memory, Sink, Source};
 pub use cadf_rehearsal::RehearseFault;
-pub use cadf_seal::VerifyFault;
+pub use cadf_evidence::VerifyFault;
 pub use cadf_set::Replica;
 pub use cadf_sketch::{Cells, Salt};
 pub use cadf_split::Unit;

@@ -1,6 +1,6 @@
 //! The engine of `prove`: the proof of which facts of an input are in a union of others, as a proof file.
 ghost use Rattle.std.specs.Prelude.{◌≤◌, length, map, List, None, Ok};
-ghost use Rattle.cadf_seal.specs.ProofFile.{proof_file};
+ghost use Rattle.cadf_evidence.specs.ProofFile.{proof_file};
 ghost use Rattle.cadf_set.specs.Inventory.{inventory_of};
 ghost use Rattle.cadf_tool.specs.declared.input.Loaded.{Loaded};
 ghost use Rattle.cadf_tool.specs.Join.{facts_under, on_ok};
@@ -18,7 +18,7 @@ use crate::join_state::JoinState;
 use cadf_event::Name;
 use cadf_json::{Sink, Source};
 use cadf_linefile::write_model;
-use cadf_seal::Proof;
+use cadf_evidence::Proof;
 use cadf_set::{Inventory, Replica};
 use std::alloc::Global;
 

@@ -1,6 +1,6 @@
-//! The engine of `seal`: the seal of the inventory of the union of inputs, as a seal file.
+//! The engine of `seal`: the seal of the union of inputs, as a seal file.
 ghost use Rattle.std.specs.Prelude.{false};
-ghost use Rattle.cadf_seal.specs.SealFile.{seal_file};
+ghost use Rattle.cadf_evidence.specs.SealFile.{seal_file};
 ghost use Rattle.cadf_tool.specs.declared.input.Loaded.TheVariants as loaded;
 ghost use Rattle.cadf_tool.specs.Run.{IsWorked};
 ghost use Rattle.cadf_tool.specs.Seal.{seal_model_of};
@@ -10,20 +10,19 @@ use crate::engine::Engine;
 use crate::fault::{ToolFault, answered};
 use cadf_json::Sink;
 use cadf_linefile::write_model;
-use cadf_seal::Seal;
+use cadf_evidence::Seal;
 use cadf_set::Replica;
 use std::alloc::Global;
 
-/// Makes the seal of a replica's inventory. `Memory` if an allocation fails.
+/// Makes the seal of a replica. `Memory` if an allocation fails.
 fn sealed(alloc: Global, replica: &Replica) -> Result<Seal, ToolFault>
     ensures { IsWorked (seal_model_of (loaded.Replica replica.now)) result }
 {
-    let inventory = replica.inventory()?;
-    Seal::of(alloc, &inventory).or(Err(ToolFault::Memory))
+    Seal::of(alloc, replica).or(Err(ToolFault::Memory))
 }
 
-/// Makes the seal of a replica's inventory, and writes its file: its log, how many atoms it has, and the root of the tree
-/// over their digests.
+/// Makes the seal of a replica, and writes its file: its log, how many facts and how many keys it has, and the roots of the
+/// trees over their digests.
 #[derive(Drop)]
 pub(crate) struct SealEngine;
 

@@ -4,19 +4,26 @@ use crate::inventories::{inventory_between, inventory_of};
 use crate::reads::Reading;
 use crate::replicas::replica_of;
 use crate::streams::{sink_of, written};
+use cadf_evidence::{FactLines, Proof, Seal, verified};
 use cadf_file::FileFault;
 use cadf_json::Memory;
 use cadf_linefile::{read_model, write_model};
 use cadf_replica::Inventory;
-use cadf_seal::{FactLines, Leaf, Proof, Seal, root_of, verified};
+use cadf_tree::{Kind, Part, Root};
 use calls::{Call, MemorySink, answer, push, push_number, refused};
 use std::alloc::{AllocError, Global};
 
-/// Answers `ok` with the seal's log, count and root.
+/// Adds a root: its count and its digits.
+fn push_root(alloc: Global, line: &mut String, root: &Root) -> Result<(), Memory> {
+    push_number(alloc, line, i128::from(root.count))?;
+    push(line, hex::encode(alloc, &root.hash)?.as_str())
+}
+
+/// Answers `ok` with the seal's log and both roots.
 fn shown(alloc: Global, seal: &Seal) -> Result<String, Memory> {
     let mut line = answer(alloc, "ok", &[seal.log().as_str()])?;
-    push_number(alloc, &mut line, i128::from(seal.count()))?;
-    push(&mut line, hex::encode(alloc, seal.root())?.as_str())?;
+    push_root(alloc, &mut line, seal.facts())?;
+    push_root(alloc, &mut line, seal.keys())?;
     Ok(line)
 }
 
@@ -33,39 +40,40 @@ pub(crate) fn read(alloc: Global, call: &Call) -> Result<String, Memory> {
     }
 }
 
-/// Answers `seal`: a log and digests.
+/// Answers `seal`: a number of digests of facts, a log, these, and the digests of keys.
 pub(crate) fn seal(alloc: Global, call: &Call) -> Result<String, Memory> {
-    match inventory_of(alloc, call, 1) {
-        Some(inventory) => shown(alloc, &Seal::of(alloc, &inventory)?),
+    match sets_of(alloc, call, 1) {
+        Some((facts, keys)) => shown(alloc, &Seal::over(alloc, &facts, &keys)?),
         None => answer(alloc, "no inventory", &[]),
     }
 }
 
 /// Answers `root_of`: a log and digests.
 pub(crate) fn root(alloc: Global, call: &Call) -> Result<String, Memory> {
-    match inventory_of(alloc, call, 1) {
-        Some(inventory) => answer(
-            alloc,
-            "ok",
-            &[hex::encode(alloc, &root_of(&inventory))?.as_str()],
-        ),
-        None => answer(alloc, "no inventory", &[]),
-    }
-}
-
-/// Answers `write_seal`: a writer, a log and digests.
-pub(crate) fn write(alloc: Global, call: &Call) -> Result<String, Memory> {
-    let Some(inventory) = inventory_of(alloc, call, 4) else {
+    let Some(inventory) = inventory_of(alloc, call, 1) else {
         return answer(alloc, "no inventory", &[]);
     };
-    let seal = Seal::of(alloc, &inventory)?;
+    let seal = Seal::over(alloc, &inventory, &inventory)?;
+    answer(
+        alloc,
+        "ok",
+        &[hex::encode(alloc, &seal.facts().hash)?.as_str()],
+    )
+}
+
+/// Answers `write_seal`: a writer, a number of digests of facts, a log, these, and the digests of keys.
+pub(crate) fn write(alloc: Global, call: &Call) -> Result<String, Memory> {
+    let Some((facts, keys)) = sets_of(alloc, call, 4) else {
+        return answer(alloc, "no inventory", &[]);
+    };
+    let seal = Seal::over(alloc, &facts, &keys)?;
     let mut sink = sink_of(alloc, call, 1);
     let done = write_model(alloc, &seal, &mut sink);
     written(alloc, done, &sink)
 }
 
-/// Makes the facts and the inventory of a call: a number of facts from word `place` on, a log, that many digests, and
-/// the inventory's digests. `None` if one is refused.
+/// Makes the two inventories of a call: from word `place` on a number, a log, that many digests, and other digests. `None` if
+/// one is refused.
 fn sets_of(alloc: Global, call: &Call, place: usize) -> Option<(Inventory, Inventory)> {
     let log = place.saturating_add(1);
     let middle = log.saturating_add(call.number(place)).min(call.count());
@@ -74,30 +82,59 @@ fn sets_of(alloc: Global, call: &Call, place: usize) -> Option<(Inventory, Inven
     Some((facts, inventory))
 }
 
-/// Adds each leaf that is shown: its place and its digest.
-fn push_shown(alloc: Global, line: &mut String, shown: &[Leaf]) -> Result<(), Memory> {
-    for leaf in shown {
-        push_number(alloc, line, i128::from(leaf.place))?;
-        push(line, hex::encode(alloc, &leaf.digest)?.as_str())?;
+/// Returns the letter of a leaf.
+fn letter_of<'a>(kind: &Kind) -> &'a str {
+    match kind {
+        Kind::Both => "P",
+        Kind::Added => "A",
+        Kind::Gone => "G",
+    }
+}
+
+/// Adds the letter and the digits.
+fn push_digest(
+    alloc: Global,
+    line: &mut String,
+    letter: &str,
+    digest: &[u8; 32],
+) -> Result<(), Memory> {
+    push(line, letter)?;
+    push(line, hex::encode(alloc, digest)?.as_str())
+}
+
+/// Adds a part: its letter, and its digits if it has some.
+fn push_part(alloc: Global, line: &mut String, part: &Part) -> Result<(), Memory> {
+    match part {
+        Part::Node => push(line, "N"),
+        Part::Hash(hash) => push_digest(alloc, line, "H", hash),
+        Part::Leaf(kind, digest) => push_digest(alloc, line, letter_of(kind), digest),
+    }
+}
+
+/// Adds each part.
+fn push_parts(alloc: Global, line: &mut String, parts: &[Part]) -> Result<(), Memory> {
+    for part in parts {
+        push_part(alloc, line, part)?;
     }
     Ok(())
 }
 
-/// Adds each hash.
-fn push_hashes(alloc: Global, line: &mut String, hashes: &[[u8; 32]]) -> Result<(), Memory> {
-    for hash in hashes {
-        push(line, hex::encode(alloc, hash)?.as_str())?;
+/// Adds the letter that begins the keys' parts, and these, if the proof has some.
+fn push_keys(alloc: Global, line: &mut String, proof: &Proof) -> Result<(), Memory> {
+    match proof.keys() {
+        Some(keys) => {
+            push(line, "K")?;
+            push_parts(alloc, line, keys)
+        }
+        None => Ok(()),
     }
-    Ok(())
 }
 
-/// Answers `ok` with the proof's log, its count, how many leaves are shown, these, and the hashes of the others.
+/// Answers `ok` with the proof's log and its parts.
 fn proof_shown(alloc: Global, proof: &Proof) -> Result<String, Memory> {
     let mut line = answer(alloc, "ok", &[proof.log().as_str()])?;
-    push_number(alloc, &mut line, i128::from(proof.count()))?;
-    push_number(alloc, &mut line, proof.shown().len() as i128)?;
-    push_shown(alloc, &mut line, proof.shown())?;
-    push_hashes(alloc, &mut line, proof.hidden())?;
+    push_parts(alloc, &mut line, proof.facts())?;
+    push_keys(alloc, &mut line, proof)?;
     Ok(line)
 }
 

@@ -4,7 +4,7 @@ use Rattle.std.proofs.Common.{refl}
 use Rattle.cadf_join.specs.Contents.{Text, Contents}
 use Rattle.cadf_line.specs.Digest.{atom_digest}
 use Rattle.cadf_line.specs.Missing.{digests_of}
-use Rattle.cadf_seal.specs.SealFile.{seal_of}
+use Rattle.cadf_evidence.specs.SealFile.{seal_of}
 use Rattle.cadf_tool.specs.declared.input.Loaded.{Loaded}
 use Rattle.cadf_tool.specs.declared.input.Loaded.TheVariants.{Replica}
 use Rattle.cadf_tool.specs.declared.fault.ToolFault.{ToolFault}
@@ -38,7 +38,7 @@ pub of_sketch : (cells salt : Option ℕ) → IsOfReplica (sketch_model_of cells
 of_sketch cells salt l = by_log (λ o s. sketch_of_result cells salt (inventory_model_under o (digests_of atom_digest s))) (λ s. refl) l
 
 pub of_seal : IsOfReplica seal_model_of
-of_seal l = by_log (λ o s. on_ok (inventory_model_under o (digests_of atom_digest s)) (λ n. Ok (seal_of n))) (λ s. refl) l
+of_seal l = by_log (λ o s. on_ok (under_log o s) (λ h. Ok (seal_of h))) (λ s. refl) l
 
 pub of_ruled : (letter key : Text) (place : ℕ) → IsOfReplica (ruled_of letter key place)
 of_ruled letter key place l = by_log (λ o s. ruled_in letter key place (under_log o s)) (λ s. refl) l

@@ -1,5 +1,0 @@
-use Rattle.cadf_seal.proofs.ProofLineLemmas.{proof-file-tells}
-use Rattle.cadf_seal.proofs.laws.proof_file_is_injective.Goals as goal
-
-pub returns : goal.returns
-returns c = proof-file-tells

@@ -1,5 +1,0 @@
-use Rattle.cadf_seal.proofs.SealLemmas.{seal-file-tells}
-use Rattle.cadf_seal.proofs.laws.seal_file_is_injective.Goals as goal
-
-pub returns : goal.returns
-returns c = seal-file-tells

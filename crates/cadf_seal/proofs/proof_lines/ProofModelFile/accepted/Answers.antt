@@ -1,5 +1,0 @@
-use Rattle.cadf_seal.proofs.ProofLineLemmas.{accepts-proofs}
-use Rattle.cadf_seal.proofs.proof_lines.ProofModelFile.accepted.Goals as goal
-
-pub returns : goal.returns
-returns c = accepts-proofs

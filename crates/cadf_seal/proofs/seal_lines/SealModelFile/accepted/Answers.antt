@@ -1,5 +1,0 @@
-use Rattle.cadf_seal.proofs.SealLemmas.{accepts-seals}
-use Rattle.cadf_seal.proofs.seal_lines.SealModelFile.accepted.Goals as goal
-
-pub returns : goal.returns
-returns c = accepts-seals
