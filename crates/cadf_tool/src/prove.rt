@@ -16,9 +16,9 @@ use crate::inputs::load_one;
 use crate::join::{facts_under, union_with};
 use crate::join_state::JoinState;
 use cadf_event::Name;
+use cadf_evidence::Proof;
 use cadf_json::{Sink, Source};
 use cadf_linefile::write_model;
-use cadf_evidence::Proof;
 use cadf_set::{Inventory, Replica};
 use std::alloc::Global;
 

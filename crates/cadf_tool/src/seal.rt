@@ -8,9 +8,9 @@ ghost use Rattle.cadf_tool.specs.laws.Engines.{of_seal};
 
 use crate::engine::Engine;
 use crate::fault::{ToolFault, answered};
+use cadf_evidence::Seal;
 use cadf_json::Sink;
 use cadf_linefile::write_model;
-use cadf_evidence::Seal;
 use cadf_set::Replica;
 use std::alloc::Global;
 

@@ -10,8 +10,8 @@ use crate::fault::ToolFault;
 use crate::input::Loaded;
 use crate::inputs::{load_model, load_one};
 use crate::join::facts_under;
-use cadf_json::{Sink, Source};
 use cadf_evidence::{FactLines, Proof, Seal, VerifyFault, verified};
+use cadf_json::{Sink, Source};
 use cadf_set::Replica;
 use std::alloc::Global;
 
