@@ -7,13 +7,14 @@ pub use Rattle.cadf_evidence.specs.Growth.{all_gone_fault, error_of, first_unlis
 unfoldable pub use Rattle.cadf_evidence.specs.Marked.{digest_after, number_after, rest_after}
 pub use Rattle.cadf_evidence.specs.ProofFile.{AreKeyParts, AreParts, HasProofParts, IsPart, IsProof, ProofFileIsInjective, ProofModel, keys_line, keys_lines, node_line, part_line, proof_body, proof_header, proof_lines}
 pub use Rattle.cadf_evidence.specs.ProofLines.{AreTold, IsPutInto}
+pub use Rattle.cadf_evidence.specs.ProofMade.{MadeProofIsAccepted}
 pub use Rattle.cadf_evidence.specs.ProofVerdict.{cause_after, facts_in, have_begun, keys_in, parts_in, proof_kind, proof_model_in}
 unfoldable pub use Rattle.cadf_evidence.specs.ProofVerdict.{leaf_in, part_in, starts_keys}
 pub use Rattle.cadf_evidence.specs.SealFile.{IsRoot, IsSeal, SealFileIsInjective, SealModel, digest_line, number_line, seal_body, seal_header, seal_of}
 pub use Rattle.cadf_evidence.specs.SealLines.{IsPut}
 pub use Rattle.cadf_evidence.specs.SealVerdict.{seal_kind, seal_model_in}
 pub use Rattle.cadf_evidence.specs.Soundness.{EqualSealsAreOfOneSet, FactsAreSo, GrowthIsSo, fact_digests, given_parts, key_digests, unchanged_parts}
-pub use Rattle.cadf_evidence.specs.Told.{alike_text, digest_text, told_text}
+pub use Rattle.cadf_evidence.specs.Told.{alike_text, digest_text, told, told_text}
 pub use Rattle.cadf_evidence.specs.Verified.{fact_fault, first_fault, text_unless, tree_refusal}
 pub use Rattle.cadf_evidence.specs.declared.growth.GrowthFault.{GrowthFault}
 pub use Rattle.cadf_evidence.specs.declared.growth.SealedSet.{SealedSet}
@@ -33,7 +34,7 @@ pub use Rattle.cadf_join.specs.laws.Contents.{text_same, text_total, texts_same,
 pub use Rattle.cadf_join.specs.laws.Rising.{listed-rising, rising-listed}
 pub use Rattle.cadf_json.specs.Streams.{AppendsPrefix}
 pub use Rattle.cadf_key.specs.Keys.{key_digest, keys_of}
-pub use Rattle.cadf_line.proofs.Missing.{digest_of_some, known_digest}
+pub use Rattle.cadf_line.proofs.Missing.{digest_of_some, known_digest, listed_map, map_listed}
 pub use Rattle.cadf_line.specs.Digest.{IsDigest, atom_digest}
 pub use Rattle.cadf_line.specs.Missing.{Digests, NoCollision, digests_of}
 pub use Rattle.cadf_linefile.proofs.BodyLines.{AreAfter, map_more}
@@ -50,12 +51,14 @@ pub use Rattle.cadf_linefile.specs.Numbers.{number_in}
 pub use Rattle.cadf_linefile.specs.Verdict.{begins_digest, log_line, with_digest_line}
 pub use Rattle.cadf_linefile.specs.declared.fault.Cause.TheVariants.{Shape}
 pub use Rattle.cadf_linefile.specs.laws.Prefixes.{front_after, front_more}
-pub use Rattle.cadf_set.specs.Inventory.{AreDigests}
-pub use Rattle.cadf_tree.specs.Grown.{all_needed, are_equal, fault_unless, growth_unless, hidden_leaves, is_text, order_fault, tree_fault, verdict}
-pub use Rattle.cadf_tree.specs.GrowthLaws.{BothAreHonest, DoNotCollide, HasHash, HaveHashes, IsDifference, IsHashedForBoth, Marked, is_added, is_gone, those}
-pub use Rattle.cadf_tree.specs.Presence.{PresenceIsSound, member, state}
-pub use Rattle.cadf_tree.specs.Pruned.{is_earlier, is_later, items, leaves_of, number}
-pub use Rattle.cadf_tree.specs.Tree.{Branch, IsSet, Tip, Tree, hash, leaf_text, node_text, root, root_hash, root_text, tree_hash, tree_of}
+pub use Rattle.cadf_set.specs.Inventory.{AreDigests, InventoryModel}
+pub use Rattle.cadf_tree.specs.Grown.{all_needed, are_equal, fault_unless, growth_unless, hidden_leaves, is_hash, is_text, order_fault, tree_fault, verdict}
+pub use Rattle.cadf_tree.specs.GrowthLaws.{AreRising, BothAreHonest, DoNotCollide, HasHash, HaveHashes, IsDifference, IsHashedForBoth, Marked, is_added, is_gone, those}
+pub use Rattle.cadf_tree.specs.Made.{Kinds, any_shown, first_kind, made_leaf, made_parts, preorder, size}
+pub use Rattle.cadf_tree.specs.Presence.{PresenceIsSound, all_asked, first_part, member, needs, shown, state}
+pub use Rattle.cadf_tree.specs.PresenceMade.{PresenceIsComplete, asked_kinds, presence_parts}
+pub use Rattle.cadf_tree.specs.Pruned.{Fork, Hidden, is_earlier, is_later, items, leaves_of, number}
+pub use Rattle.cadf_tree.specs.Tree.{Branch, IsSet, Tip, Tree, all_leaves, hash, leaf_text, leaves, node_text, root, root_hash, root_text, tree_hash, tree_of}
 pub use Rattle.cadf_tree.specs.declared.growth.Growth.{Growth}
 pub use Rattle.cadf_tree.specs.declared.growth.TreeFault.{TreeFault}
 pub use Rattle.cadf_tree.specs.declared.growth.TreeFault.TheVariants.{NotNeeded, OtherCount, OtherEarlierRoot, OtherLaterRoot}
@@ -66,7 +69,7 @@ pub use Rattle.cadf_tree.specs.declared.parts.Part.TheVariants.{Hash, Leaf, Node
 pub use Rattle.cadf_tree.specs.declared.tree.Root.{Root}
 pub use Rattle.hex.specs.Hex.{encode_lower}
 pub use Rattle.sha2.proofs.Facts256.{length-sha256}
-pub use Rattle.std.proofs.Common.{Bool, Err, List, None, Ok, Option, Result, Some, [], ap, append-nil, append_assoc, arith, cond, drop, false, flat_map, get_or, inl, inr, length, map, not, refl, rules, subst, sym, take, true, true≢false, ℕ, ◌++◌, ◌+◌, ◌<◌, ◌^◌, ◌∙◌, ◌∷◌, ◌≡◌, ◌≤◌}
+pub use Rattle.std.proofs.Common.{Bool, Err, List, None, Ok, Option, Result, Some, [], ap, append-nil, append_assoc, arith, cond, drop, false, flat_map, get_or, if◌then◌else◌, inl, inr, length, map, not, refl, rules, subst, sym, take, true, true≢false, ℕ, ◌&&◌, ◌++◌, ◌+◌, ◌<◌, ◌^◌, ◌∙◌, ◌∷◌, ◌≡◌, ◌≤◌}
 pub use Rattle.std.proofs.KnownBytes.{Appends-trans}
 pub use Rattle.std.proofs.Math.Seq.{drop-append_seam, take-append_seam}
 pub use Rattle.std.proofs.lemmas.Bool.{eq-eqb, false_from_ne_true, le-leb, le-ltb}
@@ -74,8 +77,10 @@ pub use Rattle.std.proofs.lemmas.Grind.{common_steps, flat_map-append}
 pub use Rattle.std.proofs.lemmas.List.{drop_more, take-append-drop}
 pub use Rattle.std.proofs.lemmas.Result.{err_from_is_err_and, on_err_weaker}
 pub use Rattle.std.proofs.lemmas.Slice.Eq.{bytes_eq-Decides}
+pub use Rattle.std.specs.Cmp.Lexicographic.{slice_cmp}
 pub use Rattle.std.specs.Io.KnownBytes.{Appends}
 pub use Rattle.std.specs.List.{AllByRecursion, list_any}
 pub use Rattle.std.specs.Option.{option_or}
-pub use Rattle.std.specs.Prelude.{IfErr, codes, decimal, is_some, nat_eq, option_and_then, option_map, unwrap_or, ◌&&◌, ◌||◌, ◌⊎◌}
+pub use Rattle.std.specs.Ordering.{is_lt, nat_cmp}
+pub use Rattle.std.specs.Prelude.{IfErr, codes, decimal, is_some, nat_eq, option_and_then, option_map, unwrap_or, ◌||◌, ◌⊎◌}
 pub use Rattle.std.specs.Str.{bytes_eq}

@@ -1,3 +1,4 @@
+mod AcceptedProofs
 mod AlikeLines
 mod EqualSeals
 mod GrownSets

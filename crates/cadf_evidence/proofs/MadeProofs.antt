@@ -1,26 +1,7 @@
 -- A proof that is made of digests has the form of one, and shows of each whether it is in the set.
-use Rattle.std.proofs.Common.{◌≡◌, ◌++◌, Bool, true, false, if◌then◌else◌, List, [], ◌∷◌, Option, Some, None, take, drop, ap, sym, subst}
-use Rattle.std.specs.List.{AllByRecursion}
+use Rattle.cadf_evidence.proofs.Common.{◌≡◌, ◌++◌, Bool, true, false, if◌then◌else◌, List, [], ◌∷◌, Option, Some, None, take, drop, ap, sym, subst, AllByRecursion, nat_cmp, is_lt, slice_cmp, all_append, Text, rising, sha_digest, each_digest, rising_set, IsDigest, Digests, InventoryModel, AreDigests, AreRising, Kinds, any_shown, first_kind, size, made_leaf, preorder, made_parts, asked_kinds, presence_parts, Hidden, Fork, IsSet, Tree, Tip, Branch, leaf_text, node_text, hash, leaves, all_leaves, tree_of, Kind, IsPart, AreParts}
 unfoldable use Rattle.std.specs.List.Sorted.{IsStrictlySortedBy}
-use Rattle.std.specs.Ordering.{nat_cmp, is_lt}
-use Rattle.std.specs.Cmp.Lexicographic.{slice_cmp}
-use Rattle.cadf_event.proofs.KnownParts.{all_append}
-use Rattle.cadf_join.specs.Contents.{Text}
-use Rattle.cadf_join.specs.Sets.{rising}
-use Rattle.cadf_inventory.proofs.DigestLines.{sha_digest}
-use Rattle.cadf_inventory.proofs.InventoryVerdictLemmas.{each_digest}
-use Rattle.cadf_inventory.proofs.RisingLists.{rising_set}
-use Rattle.cadf_line.specs.Digest.{IsDigest}
-use Rattle.cadf_line.specs.Missing.{Digests}
-use Rattle.cadf_set.specs.Inventory.{InventoryModel, AreDigests}
-use Rattle.cadf_tree.specs.GrowthLaws.{AreRising}
-use Rattle.cadf_tree.specs.Made.{Kinds, any_shown, first_kind, size, made_leaf, preorder, made_parts}
 unfoldable use Rattle.cadf_tree.specs.Made.{made}
-use Rattle.cadf_tree.specs.PresenceMade.{asked_kinds, presence_parts}
-use Rattle.cadf_tree.specs.Pruned.{Hidden, Fork}
-use Rattle.cadf_tree.specs.Tree.{IsSet, Tree, Tip, Branch, leaf_text, node_text, hash, leaves, all_leaves, tree_of}
-use Rattle.cadf_tree.specs.declared.parts.Kind.{Kind}
-use Rattle.cadf_evidence.specs.ProofFile.{IsPart, AreParts}
 use Rattle.cadf_evidence.proofs.SetsOfDigests.{digests_are_set}
 
 -- ---- the form of parts

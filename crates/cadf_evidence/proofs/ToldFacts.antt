@@ -27,12 +27,12 @@ member_listed f (d ∷ ds) e = by (is_text d f) refl e (λ k. member_listed f ds
 or_right : (a b : Bool) → b ≡ true → (a || b) ≡ true
 or_right a b e = grind (arith, common_steps)
 
-listed_member : (f : Text) (ds : List Text) → Listed f ds → member f ds ≡ true
+pub listed_member : (f : Text) (ds : List Text) → Listed f ds → member f ds ≡ true
 listed_member f [] l = absurd l
 listed_member f (d ∷ ds) (inl e) = ap (λ b. b || member f ds) (ap (λ x. is_text d x) e ∙ (bytes_eq-Decides d d).1 refl)
 listed_member f (d ∷ ds) (inr l) = or_right (is_text d f) (member f ds) (listed_member f ds l)
 
-member_has : (s : Digests) (f : Text) (b : Bool) → member f (rising s) ≡ b → set.contains s f ≡ b
+pub member_has : (s : Digests) (f : Text) (b : Bool) → member f (rising s) ≡ b → set.contains s f ≡ b
 member_has s f true e = listed-rising text_total text_same s f (member_listed f (rising s) e)
 member_has s f false e =
     false_from_ne_true (set.contains s f) (λ h. true≢false (sym (listed_member f (rising s) (rising-listed text_total text_same s f h)) ∙ e))

@@ -15,6 +15,8 @@ pub use Rattle.cadf_event.specs.Known.{DocumentInvariant, IsKnownLog, IsNameText
 pub use Rattle.cadf_event.specs.LogName.{is_name_text}
 pub use Rattle.cadf_event.specs.declared.document_bytes.DocumentBytesFault.{DocumentBytesFault}
 pub use Rattle.cadf_event.specs.declared.document_bytes.DocumentBytesFault.TheVariants.{Document as BytesDocument, Json as BytesJson, Memory as BytesMemory}
+pub use Rattle.cadf_evidence.specs.ProofFile.{ProofModel}
+pub use Rattle.cadf_evidence.specs.SealFile.{SealModel, seal_file}
 pub use Rattle.cadf_file.proofs.FileLemmas.{file-of-one, formats_apart}
 pub use Rattle.cadf_file.proofs.FileTwoLemmas.{file-two-tells}
 pub use Rattle.cadf_file.proofs.RefusedLemmas.{accepted_whole, behind_all, decided_is, decided_stays, err, failed_alone, left_to_failed, refused_verdict, too_many}
@@ -61,8 +63,6 @@ pub use Rattle.cadf_log.specs.ReadBack.{IsConflictTextOf, IsLogTextOf}
 unfoldable pub use Rattle.cadf_log.specs.Texts.{log_text}
 pub use Rattle.cadf_rehearsal.specs.declared.turn.Turn.{Turn as Step}
 pub use Rattle.cadf_scan.specs.Instants.{body_instant}
-pub use Rattle.cadf_evidence.specs.ProofFile.{ProofModel}
-pub use Rattle.cadf_evidence.specs.SealFile.{SealModel, seal_file}
 pub use Rattle.cadf_set.proofs.ContributionLaws.{document_kept, kept_empty, kept_union, ruling_kept}
 pub use Rattle.cadf_set.proofs.History.{apart_by_digests, apart_by_replicas, contains_listed, in_union_all, listed_contains, listed_within, of_union_all, replica_is_held, same_held, union_all_append}
 pub use Rattle.cadf_set.proofs.InLogOrConflicts.{apart, apart as parts_apart, together as parts_together, together}

@@ -1,9 +1,4 @@
-use Rattle.std.proofs.Common.{◌≡◌, ◌∙◌, sym, subst, arith}
-use Rattle.std.proofs.lemmas.Grind.{common_steps}
-use Rattle.cadf_join.specs.Sets.{rising}
-use Rattle.cadf_tree.specs.GrowthLaws.{AreRising}
-use Rattle.cadf_tree.specs.PresenceMade.{presence_parts}
-use Rattle.cadf_evidence.specs.ProofFile.{AreParts}
+use Rattle.cadf_evidence.proofs.Common.{◌≡◌, ◌∙◌, sym, subst, arith, common_steps, rising, AreRising, presence_parts, AreParts}
 use Rattle.cadf_evidence.proofs.MadeProofs.{presence_form, asked_rise}
 use Rattle.cadf_evidence.proofs.SetsOfDigests.{digests_are_set}
 use Rattle.cadf_evidence.proofs.proof.Proof.of.Goals as goal
