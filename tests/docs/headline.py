@@ -18,8 +18,8 @@ REQUESTED, TASKS, REQUEST = ("crates/cadf_tool/" + name for name in ("specs/Requ
 CALL = "crates/cadf_c/specs/Statuses.antt"
 # What is made of sources where no file comes of it, and the laws that speak of that.
 OTHERS = {
-    "proof_of_union": ("cadf_seal", "made_proof_is_accepted"),
-    "verdict_of": ("cadf_seal", "accepted_proof_is_true"),
+    "proof_of_union": ("cadf_evidence", "made_proof_is_accepted"),
+    "verdict_of": ("cadf_evidence", "told_facts_are_so"),
     "final_sites": ("cadf_rehearsal", "rehearsal_equals_full_exchange"),
 }
 CLAUSE = re.compile(r"\bIs(?:Run|RunBy|RequestRun|MadeFor)\b")
