@@ -70,7 +70,7 @@ class Repair:
         return DIFFERS if lost else DONE
 
     def is_sealed(self, part, digests, came):
-        """Whether a part has the root that the seal has, once these files came in the place of those that are wanted."""
+        """Whether a part has the roots that the seal has, once these files came in the place of those that are wanted."""
         with contextlib.ExitStack() as files:
             own = [self.folder.input(file_name(part, digest)) for digest in self.index.digests(part) if digest not in digests]
             for each in own:
@@ -100,7 +100,7 @@ class Repair:
 
 
 def roots_of(name, index):
-    """The number and the root of the facts of each part, by the seal of that name, which has to be of the folder's log and unit."""
+    """The roots of each part, by the seal of that name, which has to be of the folder's log and unit."""
     with opened([name], pipes=True) as (input,):
         seal = read(input, SiteSeal)
     if (seal.log, seal.unit) != (index.log, index.unit):

@@ -1,4 +1,4 @@
-"""Seals of sites that are folders: of each window how many facts it has, and the root of them; and proofs under such a seal.
+"""Seals of sites that are folders: of each window how many facts and keys it has, and both roots; and proofs under such a seal.
 
 docs/FORMATS.md has the forms, and what is refused. A tool imports this as it imports cadf_toolkit, and uses
 
@@ -26,14 +26,35 @@ from cadf_windows import UNIONS, is_part
 
 UNIT = re.compile(("B (%s)" % "|".join(UNITS)).encode())
 NAME_LINE = re.compile(("W (%s)" % PART).encode())
-ENTRY = re.compile((r"W (%s) ([1-9][0-9]{0,19}) ([0-9a-f]{64})" % PART).encode())
-SEAL = re.compile(rb"CADF-SEAL 1\nL [^\n]*\nN ([0-9]{1,20})\nR ([0-9a-f]{64})\nZ [0-9a-f]{64}\n")
-ROOTS = "root 1"  # the kind under which the index keeps them; another tree has another one
-NOTHING = 0, hashlib.sha256(b"").hexdigest().encode()  # count and root of no facts
+ENTRY = re.compile((r"W (%s)" % PART + 2 * r" ([1-9][0-9]{0,19}) ([0-9a-f]{64})").encode())
+SEAL = re.compile(rb"CADF-SEAL 1\nL [^\n]*\nN ([0-9]{1,20})\nR ([0-9a-f]{64})\nM ([0-9]{1,20})\nS ([0-9a-f]{64})\nZ [0-9a-f]{64}\n")
+ROOTS = "roots 1"  # the kind under which the index keeps them; another tree has another one
+NO_ROOT = hashlib.sha256(b"\2" + bytes(8) + hashlib.sha256().digest()).hexdigest()  # of no digests
 MOST = 2 ** 64  # above all counts
 LONGEST_LINE = 2 ** 14  # bytes: no right line has so many
 DAMAGED = "it is damaged: have it sent again"
 OTHER = {1: "no seal, as `cadf seal` writes it", 3: "no proof, as `cadf prove` writes it"}  # by the places of what `cadf verify` reads
+
+
+class Roots(NamedTuple):
+    """How many facts there are, and the root of their digests; how many keys these have, and the root of theirs."""
+    facts: int
+    root: str
+    keys: int
+    key_root: str
+
+    def __str__(self):
+        """The words of a seal's line, and of the index."""
+        return "%d %s %d %s" % self
+
+
+NOTHING = Roots(0, NO_ROOT, 0, NO_ROOT)
+
+
+def roots_in(words):
+    """The roots that these words are: two numbers, each with the digits of a root behind it."""
+    facts, root, keys, key_root = words
+    return Roots(int(facts), root, int(keys), key_root)
 
 
 class Refused(Exception):
@@ -57,12 +78,12 @@ class OfParts:
 
 
 class SiteSeal(OfParts):
-    """The seal of a folder: of each part how many facts it has, and their root."""
+    """The seal of a folder: the roots of each part."""
     FIRST = b"CADF-SITE-SEAL 1"
     OTHER = "no seal of a folder, as `cadf-seal SITE/` writes it"
 
     def lines(self, part, found):
-        return b"W %s %d %s\n" % (part.encode(), *found)
+        return ("W %s %s\n" % (part, found)).encode()
 
     def is_last(self, line):
         """Whether the line is the digest line, right or wrong."""
@@ -71,12 +92,11 @@ class SiteSeal(OfParts):
     def take(self, line, number):
         """Takes the line of that number."""
         part, found = part_in(line, ENTRY, number, self)
-        self.parts[part] = int(found[2]), found[3]
+        self.parts[part] = roots_in(word.decode() for word in found.groups()[1:])
 
     def seal(self, part):
         """What `cadf seal` writes of the part's files. Of a part that isn't listed there is no fact."""
-        count, root = self.parts.get(part, NOTHING)
-        return with_digest(b"CADF-SEAL 1\nL %s\nN %d\nR %s\n" % (self.log.encode(), count, root))
+        return with_digest(("CADF-SEAL 1\nL %s\nN %d\nR %s\nM %d\nS %s\n" % (self.log, *self.parts.get(part, NOTHING))).encode())
 
 
 class SiteProof(OfParts):
@@ -108,39 +128,29 @@ class SiteProof(OfParts):
 # ---- Made of a folder
 
 def sealed(inputs):
-    """How many facts some files have together, and their root."""
+    """The roots of what some files have together."""
     found = SEAL.fullmatch(cadf(["seal"], inputs, subprocess.PIPE))
     if not found:
         raise another_program("seal")
-    return int(found[1]), found[2]
+    return roots_in(word.decode() for word in found.groups())
 
 
-def text_of(count, root):
-    """A count and a root as the index keeps them."""
-    return "%d %s" % (count, root.decode())
-
-
-class Root(NamedTuple):
-    """The root of a part: what stands for its files, count and root as a text, the bytes of the files, and when they were read whole.
+class Kept(NamedTuple):
+    """What the index keeps of a part: what stands for its files, their roots as a text, the bytes of the files, and when they were read whole.
 
     `union` is the digest of what several files hold together that were read now.
     """
     files: bytes
-    value: str
+    roots: str
     size: int
     read: int
     union: str = ""
-
-    def found(self):
-        """The count and the root, as a seal has them."""
-        count, root = self.value.split(" ")
-        return int(count), root.encode()
 
 
 def sealed_folder(name, damaged, jobs=1, is_full=False):
     """The seal of a folder, as it stood at one moment, without the parts of which a file is damaged, which are noted with why.
 
-    A root that is kept serves if the files are there as they were, by their sizes and last lines, and none is known to be damaged, unless all is to be read.
+    Roots that are kept serve if the files are there as they were, by their sizes and last lines, and none is known to be damaged, unless all is to be read.
     `read` is when the oldest was read whole.
     """
     with Folder(name, damaged) as folder:
@@ -151,15 +161,14 @@ def sealed_folder(name, damaged, jobs=1, is_full=False):
         def root_of(part, files):
             key, at = files_of(files), now() // SECOND
             if key in known and are_as_read(files, known[key][1]) and bad.isdisjoint((part, digest) for digest in files):
-                return Root(key, *known[key])
+                return Kept(key, *known[key])
             union = check_part(index, part, files) if files else ""
-            count, root = sealed(list(files.values())) if files else NOTHING
-            return Root(key, text_of(count, root), size_of(files), at, union if len(files) > 1 else "")
+            return Kept(key, str(sealed(list(files.values())) if files else NOTHING), size_of(files), at, union if len(files) > 1 else "")
 
         roots = made_of_parts([folder], None, root_of, jobs)
         keep(folder, ROOTS, {each.files: each[1:4] for each in roots.values() if each.files not in known or known[each.files] != list(each[1:4])})
         keep(folder, UNIONS, {each.files: (each.union, each.size, each.read) for each in roots.values() if each.union})
-        seal.parts = {part: each.found() for part, each in roots.items()}
+        seal.parts = {part: roots_in(each.roots.split(" ")) for part, each in roots.items()}
         seal.read = min((each.read * SECOND for each in roots.values()), default=None)
     return seal
 
@@ -214,7 +223,7 @@ def part_in(line, pattern, number, kept):
     """What the line of that number has of a part, which comes after those that are kept."""
     found = pattern.fullmatch(line)
     part = found[1].decode() if found else ""
-    if not is_part(part, kept.unit) or any(int(count) >= MOST for count in found.groups()[1:2]):
+    if not is_part(part, kept.unit) or any(int(count) >= MOST for count in found.groups()[1::2]):
         raise Refused("line %d: shape" % number)
     if kept.parts and order(part) <= order(next(reversed(kept.parts))):
         raise Refused("line %d: order" % number)
