@@ -17,8 +17,7 @@ from tests.command.commands import COMMANDS, PIECES, lines
 from tests.command.large_inputs import prepare
 from tests.machine import Answer, ended, untold
 from tests.reference.inventory_files import digest_of
-from tests.reference.seal_files import shown_root
-from tests.reference.sealed_files import sealed
+from tests.reference.seal_files import HIGHEST, hash_without, proof_with, rooted, seal_with, tree_of
 
 MOST = 64 * 1024  # KB of address space: enough for all
 FINE, COARSE = 4, 512  # KB between limits: just above the loader's, and from there on
@@ -199,17 +198,27 @@ def test_announced_cells(folder, under):
     assert got == Answer(1, b"", b"cadf: input 2: line 7: unended\n")
 
 
-def test_announced_leaves(folder, under):
-    """A seal and a proof of the greatest number of leaves take the memory and the time of short ones: 64 hashes show one leaf."""
-    fact = ("P", "p", "1")
-    leaf, hidden = bytes.fromhex(digest_of(fact).decode()), [bytes([number]) * 32 for number in range(64)]
-    root = shown_root(0, LEAVES, {0: leaf}, iter(hidden))
-    shown = [b"P 0 " + leaf.hex().encode(), *(b"H " + each.hex().encode() for each in hidden)]
-    for name, rest in (("far.seal", [b"R " + root.hex().encode()]), ("far.proof", shown)):
-        (folder / name).write_bytes(sealed([b"CADF-%s 1" % name[4:].upper().encode(), b'L "g"', b"N %d" % LEAVES, *rest]))
+def far_leaf(nodes):
+    """A seal of the greatest number of leaves, and a proof of its tree: a fact's leaf is below so many nodes."""
+    digest = bytes.fromhex(digest_of(("P", "p", "1")).decode())
+    parts = [("N", None)] * nodes + [("P", digest)] + [("H", bytes([number % 256]) * 32) for number in range(nodes)]
+    root = rooted(LEAVES, hash_without(None, tree_of(parts)) if nodes <= HIGHEST else bytes(32))
+    return seal_with("g", LEAVES, root, 1, bytes(32)), proof_with("g", parts), digest
+
+
+@pytest.mark.parametrize("nodes", [HIGHEST, HIGHEST + 1, 10 ** 5])
+def test_announced_leaves(folder, under, nodes):
+    """A seal of the greatest number of leaves and the highest tree take the memory, the stack and the time of small ones; a higher one ends."""
+    seal, proof, digest = far_leaf(nodes)
+    (folder / "far.seal").write_bytes(seal)
+    (folder / "far.proof").write_bytes(proof)
     (folder / "fact.json").write_text('{"id":"g","events":[],"p":1}')
-    got = under('ulimit -v %d; ulimit -t 5; exec "$@"' % MOST, "verify far.seal fact.json far.proof")
-    assert got == Answer(0, b'present P "p"\n', b"")
+    room = "ulimit -v %d; " % MOST if nodes <= HIGHEST else ""
+    got = under(room + 'ulimit -s %d; ulimit -t 20; exec "$@"' % STACK, "verify far.seal fact.json far.proof")
+    if nodes <= HIGHEST:
+        assert got == Answer(0, b'present P "p" %s\n' % digest.hex().encode(), b"")
+    else:
+        assert got == Answer(1, b"", b"cadf: input 3: no tree\n")
 
 
 @pytest.mark.parametrize("line", lines("deep", COMMANDS))

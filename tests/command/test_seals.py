@@ -1,5 +1,4 @@
-"""Seals and proofs beside RFC 9162 itself: the roots of examples/vectors, and audit paths that its own check accepts."""
-import hashlib
+"""Seals and proofs beside the trees of tests/tables, which are no part of either implementation, and the program of docs/SEALS.md."""
 import json
 import random
 import re
@@ -12,78 +11,57 @@ from tests import text_of
 from tests.command.vectors import read
 from tests.reference.events import Fault
 from tests.reference.seal_files import proof_of, read_proof, read_seal, seal_of, verified
-from tests.tables.seal_rows import root as tree_hash
+from tests.tables.seal_rows import closed, key_of, proof, seal, tree_hash
+from tests.tables.texts import digits, line
 
 SIZES = range(9)
-PROGRAM = re.search(r"```python\n(.*?hash_of\(0, count\).*?)```", text_of("docs", "FORMATS.md"), re.DOTALL)[1]
+PROGRAM = "\n".join(each[4:] for each in re.search(r"    \$ cat >check\.py <<'END'\n(.*?)    END\n", text_of("docs", "SEALS.md"), re.DOTALL)[1].split("\n"))
 
 
-# ---- RFC 9162 by itself: section 2.1.3.2; section 2.1.1 is tree_hash
-
-def sha256(data):
-    return hashlib.sha256(data).digest()
-
-
-def accepts(entry, leaf_index, tree_size, path, root):
-    """The check of an inclusion proof, step by step as section 2.1.3.2 has it."""
-    if leaf_index >= tree_size:
-        return False
-    fn, sn, r = leaf_index, tree_size - 1, sha256(b"\0" + entry)
-    for p in path:
-        if sn == 0:
-            return False
-        if fn & 1 or fn == sn:
-            r = sha256(b"\1" + p + r)
-            while not fn & 1 and fn:
-                fn, sn = fn >> 1, sn >> 1
-        else:
-            r = sha256(b"\1" + r + p)
-        fn, sn = fn >> 1, sn >> 1
-    return sn == 0 and r == root
-
-
-def entries_of(name):
-    """The leaves of a vector's document, which has properties alone: each atom is [P, name, value]."""
+def atoms_of(name):
+    """The atoms of a vector's document, which has properties alone: each is [P, name, value]."""
     properties = {key: value for key, value in json.loads(read(name)).items() if key not in ("id", "events")}
-    return sorted(sha256(json.dumps(["P", key, str(value)], separators=(",", ":")).encode()) for key, value in properties.items())
-
-
-# ---- What the vectors say
-
-@pytest.mark.parametrize("size", SIZES)
-def test_roots(size):
-    lines = read("size-%d.seal" % size).decode().split("\n")
-    assert lines[2:4] == ["N %d" % size, "R " + tree_hash(entries_of("size-%d.json" % size)).hex()]
+    return [line("P", key, str(value)) for key, value in properties.items()]
 
 
 @pytest.mark.parametrize("size", SIZES)
-def test_leaves_that_are_shown(size):
-    """The fact that is there, and the neighbours of the one that is not."""
-    leaves, asked = entries_of("size-%d.json" % size), entries_of("asked.json")
-    wanted = set()
-    for leaf in asked:
-        below = [place for place, other in enumerate(leaves) if other < leaf]
-        above = [place for place, other in enumerate(leaves) if other > leaf]
-        wanted |= {leaves.index(leaf)} if leaf in leaves else {*below[-1:], *above[:1]}
-    shown = [line.split()[1:] for line in read("size-%d.proof" % size).decode().split("\n") if line.startswith("P")]
-    assert shown == [[str(place), leaves[place].hex()] for place in sorted(wanted)]
+def test_vectors(size):
+    atoms, asked = atoms_of("size-%d.json" % size), atoms_of("asked.json")
+    assert read("size-%d.seal" % size).decode() == seal(*atoms)
+    assert read("size-%d.proof" % size).decode() == proof(list(map(digits, asked)), list(map(digits, atoms)))
 
 
-@pytest.mark.parametrize("name", ["there.proof", "size-1.proof"])
-def test_an_audit_path_is_accepted(name, tmp_path):
-    """The page's program makes of a proof what RFC 9162 accepts, and of a proof that was changed what it refuses."""
-    size = int(read(name).split(b"\n")[2][2:])
-    leaves = entries_of("size-%d.json" % size)
-    (tmp_path / "path.py").write_text(PROGRAM)
+@pytest.mark.parametrize("name", ["north", "ruled"])
+def test_keys(name):
+    """A file of format 1 has its atoms as lines. All facts of an event, and rulings on it, have one key."""
+    _, log, *atoms = read(name + ".1.cadf").decode().split("\n")[:-2]
+    assert read(name + ".seal").decode() == seal(*atoms, log=log[2:])
+    assert len({key_of(atom) for atom in atoms}) < len(atoms)
 
-    def accepted(data):
-        (tmp_path / "proof").write_bytes(data)
-        place, count, *path = subprocess.run([sys.executable, tmp_path / "path.py", tmp_path / "proof"], stdout=subprocess.PIPE, check=True, text=True).stdout.split()
-        return accepts(leaves[int(place)], int(place), int(count), list(map(bytes.fromhex, path)), tree_hash(leaves))
 
-    assert accepted(read(name))
-    if size > 1:
-        assert not accepted(re.sub(rb"(?m)^H ..", b"H 00", read(name), count=1))
+def of_the_page(path, sealed, proved, fact):
+    """What the program of the page says of a fact, by its digits."""
+    for name, text in (("check.py", PROGRAM), ("seal", sealed), ("proof", proved)):
+        (path / name).write_text(text)
+    done = subprocess.run([sys.executable, "check.py", "seal", "proof", fact], cwd=path, stdout=subprocess.PIPE, stderr=subprocess.DEVNULL, text=True, check=False)
+    return done.stdout
+
+
+@pytest.mark.parametrize("name", ["there.proof", "size-8.proof"])
+def test_the_page_checks_a_fact(name, tmp_path):
+    """It accepts the fact of a right proof, and no other one; of a proof or a seal that was changed, none."""
+    whole, own, (fact,), (other,) = read(name).decode(), read("size-8.seal").decode(), atoms_of("size-1.json"), atoms_of("not-there.json")
+    assert len(list(filter(None, PROGRAM.split("\n")))) == 15
+    assert of_the_page(tmp_path, own, whole, digits(fact)) == "present\n"
+    assert of_the_page(tmp_path, own, whole, digits(other)) == "not shown\n"
+    lines = whole.split("\n")[:-2]
+    changes = [lines[:-1], [*lines, lines[-1]], [*lines[:2], *lines[3:]], [*lines, "P " + digits(other)]]
+    changes += [[*lines[:place], each[:2] + "0" * 64, *lines[place + 1:]] for place, each in enumerate(lines) if each[0] in "HP" and digits(fact) not in each]
+    for change in changes:
+        changed = closed("".join(each + "\n" for each in change))
+        assert all(of_the_page(tmp_path, own, changed, digits(each)) != "present\n" for each in (fact, other)), changed
+    for changed in (read("size-7.seal"), read("other-root.seal"), read("other-number.seal")):
+        assert of_the_page(tmp_path, changed.decode(), whole, digits(fact)) != "present\n"
 
 
 def shown(atoms, asked, proof, wanted):
@@ -105,16 +83,18 @@ def test_proofs_of_random_sets():
             proof = proof_of("g", asked, atoms)
             assert shown(atoms, set(), proof, word) == "input 2: no facts"
             if asked:
-                lines = "".join("%s P \"%s\"\n" % (word, key) for _, key, _ in sorted(asked))
+                lines = "".join("%s P \"%s\" %s\n" % (word, fact[1], digits(line(*fact))) for fact in sorted(asked))
                 assert shown(atoms, asked, proof, word) == lines.encode()
                 assert shown(atoms, asked, proof, other) == "fact 1: " + word
-                assert shown(atoms | {("P", "r", "1")}, asked, proof, word) == "input 3: other count"
+                assert shown(atoms | {("P", "r", "1")}, asked, proof, word) in ("input 3: other count", "input 3: other root")
             if size and asked:
                 assert shown({*sorted(atoms)[1:], ("P", "r", "1")}, asked, proof, word) == "input 3: other root"
 
 
-def test_other_trees_are_not_these():
-    """A leaf and a node that are hashed alike, and a last leaf that counts twice, give other roots than the vector has."""
-    leaves, root = entries_of("size-3.json"), read("size-3.seal").split(b"\n")[3][2:].decode()
-    wrong = [tree_hash([*leaves, leaves[-1]]), sha256(sha256(sha256(leaves[0]) + sha256(leaves[1])) + sha256(leaves[2]))]
-    assert root not in [each.hex() for each in wrong]
+def test_what_stays_keeps_its_hash():
+    """A set that grew has the hashes of the subtrees in which nothing came: what divides them doesn't depend on their number."""
+    leaves = sorted("%064x" % random.Random(number).getrandbits(256) for number in range(50))
+    low, high = ([leaf for leaf in leaves if (leaf < "8") is is_low] for is_low in (True, False))
+    for more in range(1, len(high)):
+        halves = [bytes.fromhex(tree_hash(each)) for each in (low, high[:more])]
+        assert tree_hash(low + high[:more]) == digits(b"\1" + b"".join(halves))

@@ -1,4 +1,4 @@
-"""Seals of sets of facts, and proofs of what is in them: the tree of RFC 9162, section 2.1, over the facts' digests."""
+"""Seals of sets of facts, and proofs of what is in them: by the trees of the bits of digests, of the facts' and of their keys'."""
 import hashlib
 import re
 
@@ -9,11 +9,11 @@ from tests.reference.json_text import quoted
 from tests.reference.sealed_files import Lines, head, read_sealed, sealed
 
 SEAL, PROOF = b"CADF-SEAL 1", b"CADF-PROOF 1"
-COUNT = re.compile(rb"N (0|[1-9][0-9]{0,19})")
-ROOT = re.compile(rb"R ([0-9a-f]{64})")
-SHOWN = re.compile(rb"P (0|[1-9][0-9]{0,19}) ([0-9a-f]{64})")
-HIDDEN = re.compile(rb"H ([0-9a-f]{64})")
+COUNTED = re.compile(rb"[NM] (0|[1-9][0-9]{0,19})")
+ROOTED = re.compile(rb"[RS] ([0-9a-f]{64})")
+PART = re.compile(rb"N|[HPAG] ([0-9a-f]{64})")
 ABOVE = 2 ** 64  # all counts
+HIGHEST = 256  # trees, by the nodes above each other
 
 
 # ---- The tree
@@ -22,110 +22,157 @@ def hashed(data):
     return hashlib.sha256(data).digest()
 
 
-def middle(low, high):
-    """Where the leaves from low until before high are split: behind the greatest power of two that is less than their number."""
-    size = 1
-    while 2 * size < high - low:
-        size *= 2
-    return low + size
+def leaf_hash(digest):
+    return hashed(b"\0" + digest)
 
 
-def root_of(leaves):
-    """The root of the tree of these leaves, which are bytes."""
-    if not leaves:
+def node_hash(zeros, ones):
+    return hashed(b"\1" + zeros + ones)
+
+
+def rooted(count, tree_hash):
+    """The root of so many digests, by the hash of their tree."""
+    return hashed(b"\2" + count.to_bytes(8, "big") + tree_hash)
+
+
+def halves(digests):
+    """Several digests, which rise, divided by the first bit in which they are not all the same."""
+    numbers = [int.from_bytes(digest, "big") for digest in digests]
+    bit = (numbers[0] ^ numbers[-1]).bit_length() - 1
+    ones = sum(number >> bit & 1 for number in numbers)
+    return digests[:-ones], digests[-ones:]
+
+
+def hash_of(digests):
+    """The hash of the tree of these digests, which rise."""
+    if not digests:
         return hashed(b"")
-    if len(leaves) == 1:
-        return hashed(b"\0" + leaves[0])
-    at = middle(0, len(leaves))
-    return hashed(b"\1" + root_of(leaves[:at]) + root_of(leaves[at:]))
+    if len(digests) == 1:
+        return leaf_hash(digests[0])
+    return node_hash(*map(hash_of, halves(digests)))
 
 
-def subtrees(low, high, places):
-    """Yields from left to right the greatest subtrees without one of the places, each by its first leaf and the one behind it."""
-    here = [place for place in places if low <= place < high]
-    if not here:
-        if low < high:
-            yield low, high
-    elif high - low > 1:
-        at = middle(low, high)
-        yield from subtrees(low, at, here)
-        yield from subtrees(at, high, here)
+def root_of(digests):
+    return rooted(len(digests), hash_of(digests))
 
 
-def shown_root(low, high, leaves, hidden):
-    """The root of a tree by its shown leaves, by place, and an iterator over the hashes of its other subtrees."""
-    if high == 0:
-        return hashed(b"")
-    if not any(low <= place < high for place in leaves):
-        return next(hidden)
-    if high - low == 1:
-        return hashed(b"\0" + leaves[low])
-    at = middle(low, high)
-    return hashed(b"\1" + shown_root(low, at, leaves, hidden) + shown_root(at, high, leaves, hidden))
+def parts_of(digests, shown):
+    """The parts, in preorder, of the tree of digests that rise, of which some are shown."""
+    if not shown & set(digests):
+        return [("H", hash_of(digests))] if digests else []
+    if len(digests) == 1:
+        return [("P", digests[0])]
+    zeros, ones = halves(digests)
+    return [("N", None), *parts_of(zeros, shown), *parts_of(ones, shown)]
 
 
-# ---- Files
+def tree_of(parts):
+    """The tree of parts in preorder, each with its letter, what it holds and its height; None of no parts."""
+    above = []  # trees, of which the last comes first
+    for letter, digest in reversed(parts):
+        if letter != "N":
+            above.append((letter, digest, 0))
+        elif len(above) < 2:
+            raise Fault("no tree")
+        else:
+            zeros, ones = above.pop(), above.pop()
+            above.append((letter, (zeros, ones), 1 + max(zeros[2], ones[2])))
+    if len(above) > 1 or above and above[0][2] > HIGHEST:
+        raise Fault("no tree")
+    return above[0] if above else None
+
+
+def hash_without(letter, tree):
+    """The hash of a tree without its leaves of that letter, or None if there is no other."""
+    own, held, _ = tree
+    if own == "N":
+        zeros, ones = (hash_without(letter, half) for half in held)
+        return node_hash(zeros, ones) if zeros and ones else zeros or ones
+    if own == letter:
+        return None
+    return held if own == "H" else leaf_hash(held)
+
+
+# ---- Digests of facts and of their keys
 
 def raw(digits):
     return bytes.fromhex(digits.decode())
 
 
+def leaves_of(atoms):
+    """The digests of atoms, rising."""
+    return sorted(raw(digest_of(atom)) for atom in atoms)
+
+
+def keys_of(atoms):
+    """The digests of the keys of atoms, rising."""
+    return sorted({raw(digest_of(atom[1:3] if atom[0] == RULING else atom[:2])) for atom in atoms})
+
+
+def sealed_in(atoms):
+    """What a seal has of atoms: their number and root, and the number and the root of their keys."""
+    leaves, keys = leaves_of(atoms), keys_of(atoms)
+    return len(leaves), root_of(leaves), len(keys), root_of(keys)
+
+
+# ---- Files
+
 def count_in(line):
-    """The count of a line, or a refusal of its shape."""
-    found = COUNT.fullmatch(line)
+    found = COUNTED.fullmatch(line)
     if not found or int(found[1]) >= ABOVE:
         raise Fault("shape")
     return int(found[1])
 
 
-class SealLines(Lines):
-    """The count and the root."""
+def root_in(line):
+    found = ROOTED.fullmatch(line)
+    if not found:
+        raise Fault("shape")
+    return raw(found[1])
 
-    def __init__(self):
-        self.count = self.root = None
+
+class SealLines(Lines):
+    """The number and the root of facts, and of their keys."""
+    READ = [(b"N", count_in), (b"R", root_in), (b"M", count_in), (b"S", root_in)]
+
+    def __init__(self, *found):
+        self.found = list(found)
 
     def left(self, line):
-        return "unended" if line.startswith(b"Z") and self.root is None else None
+        return "unended" if line.startswith(b"Z") and len(self.found) < len(self.READ) else None
 
     def take(self, line):
-        if self.count is None:
-            self.count = count_in(line)
-        elif self.root is None and ROOT.fullmatch(line):
-            self.root = raw(line[2:])
-        else:
+        if len(self.found) == len(self.READ):
             raise Fault("shape")
+        letter, read = self.READ[len(self.found)]
+        if line[:1] != letter:
+            raise Fault("shape")
+        self.found.append(read(line))
+
+    @property
+    def count(self):
+        return self.found[0]
+
+    @property
+    def root(self):
+        return self.found[1]
 
 
 class ProofLines(Lines):
-    """The count, the leaves that are shown, by place, and the hashes of the other subtrees."""
+    """The parts before a line `K`, each with its letter and its digest, and whether there is that line."""
 
     def __init__(self):
-        self.count, self.leaves, self.hidden = None, {}, []
-
-    def left(self, line):
-        return "unended" if line.startswith(b"Z") and self.count is None else None
+        self.parts, self.has_keys = [], False
 
     def take(self, line):
-        if self.count is None:
-            self.count = count_in(line)
-        elif HIDDEN.fullmatch(line):
-            self.hidden.append(raw(line[2:]))
-        else:
-            self.take_shown(SHOWN.fullmatch(line))
-
-    def take_shown(self, found):
-        if not found or self.hidden or int(found[1]) >= self.count:
+        if line == b"K" and not self.has_keys:
+            self.has_keys = True
+            return
+        found = PART.fullmatch(line)
+        if not found:
             raise Fault("shape")
-        place, digest = int(found[1]), raw(found[2])
-        if self.leaves and (place <= max(self.leaves) or digest <= self.leaves[max(self.leaves)]):
-            raise Fault("order")
-        self.leaves[place] = digest
-
-    def root(self):
-        """The root of the tree, or None if the hashes aren't as many as the subtrees."""
-        if len(self.hidden) != len(list(subtrees(0, self.count, sorted(self.leaves)))):
-            return None
-        return shown_root(0, self.count, self.leaves, iter(self.hidden))
+        if not self.has_keys:
+            self.parts.append((line[:1].decode(), raw(found[1]) if found[1] else None))
 
 
 def read_seal(data):
@@ -136,65 +183,119 @@ def read_proof(data):
     return read_sealed(data, {PROOF: ProofLines})
 
 
-def leaves_of(atoms):
-    """The digests of atoms, rising."""
-    return sorted(raw(digest_of(atom)) for atom in atoms)
+def seal_with(log, count, root, keys, keys_root):
+    lines = [b"N %d" % count, b"R " + root.hex().encode(), b"M %d" % keys, b"S " + keys_root.hex().encode()]
+    return sealed(head(SEAL, log) + lines)
 
 
 def seal_of(log, atoms):
-    leaves = leaves_of(atoms)
-    return sealed(head(SEAL, log) + [b"N %d" % len(leaves), b"R " + root_of(leaves).hex().encode()])
+    return seal_with(log, *sealed_in(atoms))
 
 
-def places_for(leaf, leaves):
-    """The places that are shown for a digest, of all leaves: its own, or those of its neighbours."""
-    place = sum(other < leaf for other in leaves)
+def shown_for(leaf, leaves):
+    """The leaves, of all that rise, that are shown for a digest: its own, or its neighbours."""
     if leaf in leaves:
-        return {place}
-    return {each for each in (place - 1, place) if 0 <= each < len(leaves)}
+        return {leaf}
+    return {*[other for other in leaves if other < leaf][-1:], *[other for other in leaves if other > leaf][:1]}
+
+
+def spelled_part(letter, digest):
+    return letter.encode() + (b" " + digest.hex().encode() if digest else b"")
+
+
+def proof_with(log, parts):
+    return sealed(head(PROOF, log) + [spelled_part(*part) for part in parts])
 
 
 def proof_of(log, facts, atoms):
     """The proof of which of the facts are in the set of the atoms."""
     leaves = leaves_of(atoms)
-    places = sorted(set().union(*(places_for(leaf, leaves) for leaf in leaves_of(facts))))
-    lines = [b"N %d" % len(leaves)]
-    lines += [b"P %d %s" % (place, leaves[place].hex().encode()) for place in places]
-    lines += [b"H " + root_of(leaves[low:high]).hex().encode() for low, high in subtrees(0, len(leaves), places)]
-    return sealed(head(PROOF, log) + lines)
+    return proof_with(log, parts_of(leaves, set().union(*(shown_for(leaf, leaves) for leaf in leaves_of(facts)))))
 
 
 # ---- What a proof says
 
-def what_is_shown(leaf, proof):
-    """Whether a leaf is `present` or `absent` and the places that show it, or None if the proof doesn't show it."""
-    own = [place for place, other in proof.leaves.items() if other == leaf]
-    if own:
-        return "present", set(own)
-    below = max((place for place, other in proof.leaves.items() if other < leaf), default=-1)
-    above = min((place for place, other in proof.leaves.items() if other > leaf), default=proof.count)
-    return ("absent", {below, above} - {-1, proof.count}) if above == below + 1 else None
+def can_be_of(parts, count):
+    """Whether the parts can be of so many leaves, both without those that came and without those that went."""
+    letters = [letter for letter, _ in parts]
+    left = {count - letters.count("P") - letters.count(other) for other in "GA"}
+    least = letters.count("H")
+    return len(left) == 1 and (min(left) >= least if least else min(left) == 0)
+
+
+def check_roots(tree, seal):
+    for letter in "AG":
+        if rooted(seal.count, tree and hash_without(letter, tree) or hashed(b"")) != seal.root:
+            raise Fault("other root")
+
+
+class Shown:
+    """What is beside each other in parts, nodes passed over: of each part its letter, and its digest if it is a leaf."""
+
+    def __init__(self, parts):
+        self.ends = [(letter, digest if letter != "H" else None) for letter, digest in parts if letter != "N"]
+        self.leaves = [digest for _, digest in self.ends]  # None stands for what is hidden
+
+    def check(self):
+        pairs = list(zip(self.ends, self.ends[1:]))
+        if any(one and other and other <= one for (_, one), (_, other) in pairs):
+            raise Fault("order")
+        if any({letter, other} in ({"H", "A"}, {"H", "G"}) for (letter, _), (other, _) in pairs):
+            raise Fault("neighbour hidden")
+
+    def around(self, place):
+        """The leaves beside the part of that place: None is hidden, and an end has the least or the greatest."""
+        beyond = [b"", *self.leaves, b"\xff" * 33]
+        return beyond[place], beyond[place + 2]
+
+    def needed(self, leaf):
+        """The places of the leaves that a fact with that digest needs."""
+        for place, (letter, other) in enumerate(self.ends):
+            below, above = self.around(place)
+            if letter == "P" and (other == leaf or other > leaf and below is not None and below < leaf
+                                  or other < leaf and above is not None and above > leaf):
+                yield place
+
+    def state(self, leaf):
+        """Whether a fact with that digest is `present` or `absent`; None if it isn't shown."""
+        if ("P", leaf) in self.ends:
+            return "present"
+        around = zip([b"", *self.leaves], [*self.leaves, b"\xff" * 33])
+        return "absent" if any(None not in pair and pair[0] < leaf < pair[1] for pair in around) else None
+
+
+def states_of(facts, seal, proof):
+    """Of each fact whether it is `present` or `absent`, by what a proof shows under a seal; refusals are those of a proof."""
+    if not can_be_of(proof.parts, seal.count):
+        raise Fault("other count")
+    check_roots(tree_of(proof.parts), seal)
+    shown = Shown(proof.parts)
+    shown.check()
+    leaves = [raw(digest_of(fact)) for fact in facts]
+    needed = set().union(*(shown.needed(leaf) for leaf in leaves))
+    letters = "".join(letter for letter, _ in proof.parts)
+    if "NHH" in letters or len(needed) < sum(map(letters.count, "PAG")) or proof.has_keys:
+        raise Fault("not needed")
+    return [shown.state(leaf) for leaf in leaves]
 
 
 def verified(seal, facts, proof, wanted):
     """The lines that verify writes of the facts, each of which has to be `present` or `absent`, as wanted."""
     if not facts:
         raise Fault("input 2: no facts")
-    if proof.count != seal.count:
-        raise Fault("input 3: other count")
-    if proof.root() != seal.root:
-        raise Fault("input 3: other root")
     facts = sorted(facts)
-    found = [what_is_shown(raw(digest_of(fact)), proof) for fact in facts]
-    if None in found:
-        raise Fault("fact %d: not shown" % (1 + found.index(None)))
-    needed = set().union(*(places for _, places in found))
-    for number, place in enumerate(proof.leaves, 4):
-        if place not in needed:
-            raise Fault("input 3: line %d: not needed" % number)
-    states = [state for state, _ in found]
+    try:
+        states = states_of(facts, seal, proof)
+    except Fault as fault:
+        raise Fault("input 3: " + fault.said)
+    if None in states:
+        raise Fault("fact %d: not shown" % (1 + states.index(None)))
     for number, state in enumerate(states, 1):
         if state != wanted:
             raise Fault("fact %d: %s" % (number, state))
-    keys = [fact[2 if fact[0] == RULING else 1] for fact in facts]
-    return "".join("%s %s %s\n" % (state, fact[0], quoted(key)) for state, fact, key in zip(states, facts, keys)).encode()
+    return b"".join(line_of(wanted, fact) for fact in facts)
+
+
+def line_of(state, fact):
+    key = fact[2 if fact[0] == RULING else 1]
+    return ("%s %s %s " % (state, fact[0], quoted(key))).encode() + digest_of(fact) + b"\n"

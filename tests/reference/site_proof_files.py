@@ -1,6 +1,6 @@
 """Proofs under the seals of site folders: of each part that facts are in, a proof under the seal of that part."""
 from tests.reference.events import Fault
-from tests.reference.seal_files import proof_of, read_proof, root_of, verified
+from tests.reference.seal_files import SealLines, proof_of, read_proof, sealed_in, verified
 from tests.reference.sealed_files import Lines, head, read_sealed, sealed
 from tests.reference.site_seal_files import is_part
 from tests.reference.split_files import UNITS, in_order, parts_of
@@ -54,13 +54,6 @@ def site_proof_of(log, facts, atoms, unit):
     return sealed(lines)
 
 
-class PartSeal:
-    """The count and the root of a part that a seal lists, or of none."""
-
-    def __init__(self, seal, name):
-        self.count, self.root = seal.parts.get(name, (0, root_of([])))
-
-
 def site_verified(seal, facts, proof, wanted):
     """The lines that are written of the facts, each of which has to be `present` or `absent`, as wanted. All are what was read."""
     (log, seal), (proof_log, proof) = seal, proof
@@ -76,7 +69,7 @@ def site_verified(seal, facts, proof, wanted):
             raise Fault("%s: not shown" % name)
         if name not in asked:
             raise Fault("%s: not needed" % name)
-    return b"".join(part_verified(log, name, PartSeal(seal, name), asked[name], proof.parts[name], wanted)
+    return b"".join(part_verified(log, name, SealLines(*seal.parts.get(name, sealed_in([]))), asked[name], proof.parts[name], wanted)
                     for name in in_order(asked))
 
 

@@ -6,9 +6,10 @@ what differs from the one before.
 """
 import re
 
-from tests.tables import rows as worked, sketch_rows as sketched, split_rows, verify_rows, worked_files as made
+from tests.tables import rows as worked, sketch_rows as sketched, split_rows, worked_files as made
 from tests.tables.document_rows import BOTH, NORTH
 from tests.tables.exchange_rows import OTHER_LOG
+from tests.tables.proof_rows import WRONG, told as told_of
 from tests.tables.seal_rows import proof, seal
 from tests.tables.texts import C1, C2, CF, K1, KF, V1, V2, conflicts, data, digits, document, inventory, log, replica
 
@@ -170,8 +171,8 @@ READ = [
     ("seal", [made.NOTHING_TREE], seal()),
     ("prove", [EMPTY_LOG, NONE], proof([], [])),
     ("prove", [made.NOTHING_TREE, EMPTY_LOG, NONE], proof([], [])),
-    ("verify", [seal(digits(C1)), made.EVENT_TREE, proof([digits(C1)], [digits(C1)])], 'present E "e1"\n'),
-    ("verify --absent", [seal(), made.EVENT_TREE, proof([], [])], 'absent E "e1"\n'),
+    ("verify", [seal(C1), made.EVENT_TREE, proof([digits(C1)], [digits(C1)])], told_of("present", [C1])),
+    ("verify --absent", [seal(), made.EVENT_TREE, proof([], [])], told_of("absent", [C1])),
     ("rule P name 2", [NAMED], made.SOUTH_TREE),
     ("rehearse g 2", [TWO_SITES], "site 0 atoms 0 as 0\nsite 1 atoms 0 as 0\n"),
     ("show", [made.EVENT_TREE, NONE], log(V1)),
@@ -220,10 +221,9 @@ WRITTEN = [
     ("missing-by", [made.NOTHING_TREE, inventory()], made.NOTHING_TREE, LINES),
     ("sketch --cells 3 --salt 1", [made.EVENT_TREE], sketched.WORKED, LINES),
     ("missing-by-sketch", [made.TWO, sketched.WORKED], made.SECOND_TREE, LINES),
-    ("seal", [made.EVENT_TREE], seal(digits(C1)), LINES),
+    ("seal", [made.EVENT_TREE], seal(C1), LINES),
     ("prove", [V1, made.TWO], proof([digits(C1)], [digits(C1), digits(C2)]), LINES),
-    ("verify", [seal(digits(C1), digits(C2)), made.TWO, proof([digits(C1), digits(C2)], [digits(C1), digits(C2)])],
-     'present E "e1"\npresent E "e2"\n', LINES),
+    ("verify", [seal(C1, C2), made.TWO, proof([digits(C1), digits(C2)], [digits(C1), digits(C2)])], told_of("present", [C1, C2]), LINES),
     ("rule P name 2", [NAMED], made.SOUTH_TREE, LINES),
     ("rehearse g 2", [""], "site 0 atoms 0 as 0\nsite 1 atoms 0 as 0\n", WHOLE),
 ]
@@ -251,7 +251,7 @@ for command, inputs, output, at_once in WRITTEN:
 # A command, its readers, and its fault by name, where the first write would fail: nothing is written before all else.
 FAILING, GOOD, EVENT, BAD = reader(EMPTY_LOG, ALL, 1), reader(EMPTY_LOG), reader(V1), reader("{")
 OTHER, OTHER_NOTED, OTHER_SKETCHED = reader(OTHER_LOG), reader(inventory(log="h")), reader(sketched.sketch(3, 1, log="h"))
-ONE_SEALED, ONE_PROVED = reader(seal(digits(C1))), reader(proof([digits(C1)], [digits(C1)]))
+ONE_SEALED, ONE_PROVED = reader(seal(C1)), reader(proof([digits(C1)], [digits(C1)]))
 SEALED_NONE, OTHER_PROVED = reader(seal()), reader(proof([], [], log='"h"'))
 NOT_JSON_1, NOT_JSON_2 = ["Input", 1, "Json", "NotJson"], ["Input", 2, "Json", "NotJson"]
 IN_ORDER = [
@@ -313,9 +313,10 @@ IN_ORDER = [
     ("verify", [SEALED_NONE, EVENT, ONE_PROVED], ["Unverified", "OtherCount"]),
     ("verify", [ONE_SEALED, EVENT, reader(proof([digits(C2)], [digits(C2)]))], ["Unverified", "OtherRoot"]),
     ("verify", [ONE_SEALED, EVENT, reader(proof([], [digits(C1)]))], ["Unverified", "NotShown", 1]),
-    ("verify", [reader(seal(digits(C1), digits(C2))), EVENT, reader(proof([digits(C1), digits(C2)], [digits(C1), digits(C2)]))],
-     ["Unverified", "NotNeeded", verify_rows.LINE_OF_SECOND]),
+    ("verify", [reader(seal(C1, C2)), EVENT, reader(proof([digits(C1), digits(C2)], [digits(C1), digits(C2)]))], ["Unverified", "NotNeeded"]),
     ("verify", [ONE_SEALED, GOOD, OTHER_PROVED], ["OtherLog", 3]),
+    *(("verify", [reader(of), reader(replica(*facts)), reader(by)], ["Unverified", fault]) for of, by, word, facts, fault in WRONG
+      if word == "present" and fault in ("NoTree", "Order", "NeighbourHidden") and len(by) < 1000),
     ("verify", [SEALED_NONE, GOOD, ONE_PROVED], ["NoFacts", 2]),
     ("verify --absent", [ONE_SEALED, reader(made.NOTHING_TREE), ONE_PROVED], ["NoFacts", 2]),
     ("verify", [SEALED_NONE, EVENT, reader(proof([], []))], ["Unverified", "Absent", 1]),

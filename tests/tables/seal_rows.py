@@ -1,40 +1,53 @@
 """Rows of the driver of files: seals that are made, read and written, and proofs that are made and written.
 
-Words: those of a reading or a writer; a seal's own are a log and digests, a proof's own a number of facts, a log, these
-facts and digests. The roots are worked out here, as section 2.1.1 of RFC 9162 defines them.
+Words: those of a reading or a writer; a seal's own are a number of facts, a log, the digests of these facts and those of
+keys; a proof's own are a number of facts, a log, these facts and digests. The trees are worked out here, by the digits of
+digests in base 2, as "Seal file" has them.
 """
+import json
+import os
 from hashlib import sha256
 
-from tests.tables.texts import C1, C2, CF, K1, KF, LIMIT, LIMITS, PIECES, SINKS, T3, digits, refused
+from tests.tables.texts import C1, C2, CF, K1, KF, LIMIT, LIMITS, PIECES, SINKS, digits, line, refused
 
 CALLS = {
-    "seal": ["Seal::of", "Seal::log", "Seal::count", "Seal::root"],
+    "seal": ["Seal::of", "Seal::log", "Seal::count", "Seal::root", "Seal::keys", "Seal::keys_root"],
     "root_of": ["root_of"],
     "read_seal": ["read_model"],
     "write_seal": ["write_model"],
-    "proof": ["Proof::of", "Proof::log", "Proof::count", "Proof::shown", "Proof::hidden"],
+    "proof": ["Proof::of", "Proof::log", "Proof::parts"],
     "write_proof": ["write_model"],
 }
 
 SEAL, PROOF, REFUSAL = "Seal file", "Proof file", "What is refused"
 HEAD = 'CADF-SEAL 1\nL "g"\n'
-OF_NOTHING = "e3b0c44298fc1c149afbf4c8996fb92427ae41e4649b934ca495991b7852b855"  # SHA-256 of no bytes
+OF_NOTHING = "f0c1e0b4cd1983b9c92909f8145cc102993e4c797489c0ba98639fd93056b82f"  # SHA-256 of 02, 8 times 00, and e3b0c442..7852b855
 
 
-def root(leaves):
-    """The hash of a list of leaves: MTH of RFC 9162, section 2.1.1."""
-    if not leaves:
-        return sha256(b"").digest()
-    if len(leaves) == 1:
-        return sha256(b"\x00" + leaves[0]).digest()
-    half = 1
-    while 2 * half < len(leaves):
-        half *= 2
-    return sha256(b"\x01" + root(leaves[:half]) + root(leaves[half:])).digest()
+def hashed(*parts):
+    return sha256(b"".join(parts)).hexdigest()
+
+
+def halves(leaves):
+    """Several leaves, divided at the first binary digit in which they differ."""
+    spelled = {"{:0256b}".format(int(leaf, 16)): leaf for leaf in leaves}
+    shared = os.path.commonprefix(list(spelled))
+    return [[spelled[each] for each in sorted(spelled) if each.startswith(shared + bit)] for bit in "01"]
+
+
+def tree_hash(leaves):
+    """The hash of the tree of some leaves, in digits."""
+    if len(leaves) < 2:
+        return hashed(*(b"\x00" + bytes.fromhex(leaf) for leaf in leaves))
+    return hashed(b"\x01", *(bytes.fromhex(tree_hash(half)) for half in halves(leaves)))
+
+
+def root_at(count, hash_of_tree):
+    return hashed(b"\x02", count.to_bytes(8, "big"), bytes.fromhex(hash_of_tree))
 
 
 def root_of(digests):
-    return root([bytes.fromhex(digest) for digest in sorted(set(digests))]).hex()
+    return root_at(len(set(digests)), tree_hash(sorted(set(digests))))
 
 
 def closed(text):
@@ -42,83 +55,111 @@ def closed(text):
     return text + "Z %s\n" % sha256(text.encode()).hexdigest()
 
 
-def seal(*digests, log='"g"'):
-    """The file of the seal of these digests."""
-    return closed("CADF-SEAL 1\nL %s\nN %d\nR %s\n" % (log, len(set(digests)), root_of(digests)))
+def key_of(atom):
+    """The digits of the digest of an atom's key."""
+    texts = json.loads(atom)
+    return digits(line(*(texts[1:3] if texts[0] == "U" else texts[:2])))
 
 
-def made(*digests, log="g"):
-    """The answer of the seal of these digests."""
-    return ["ok", log, len(set(digests)), root_of(digests)]
+def counted(digests):
+    """The number of different digests, and their root."""
+    different = set(digests)
+    return len(different), root_of(different)
 
 
-def places_of(fact, leaves):
-    """The places of the leaves that a fact needs: its own, or those next to it."""
+def seal_with(log, count, root, keys, keys_root):
+    """A seal with these numbers and roots; the log is JSON."""
+    return closed("CADF-SEAL 1\nL %s\nN %d\nR %s\nM %d\nS %s\n" % (log, count, root, keys, keys_root))
+
+
+def seal(*atoms, log='"g"'):
+    """The file of the seal of these atoms, which are lines."""
+    return seal_with(log, *counted(map(digits, atoms)), *counted(map(key_of, atoms)))
+
+
+def leaves_for(fact, leaves):
+    """The leaves that a fact needs: its own, or those next to it."""
     if fact in leaves:
-        return [leaves.index(fact)]
-    behind = len([leaf for leaf in leaves if leaf < fact])
-    return [place for place in (behind - 1, behind) if 0 <= place < len(leaves)]
+        return [fact]
+    return [leaf for leaf in leaves if leaf < fact][-1:] + [leaf for leaf in leaves if leaf > fact][:1]
 
 
-def hidden(leaves, low, high, places):
-    """The hashes of the greatest subtrees without one of the places, of the leaves from place low until before high."""
-    if not any(low <= place < high for place in places):
-        return [root(leaves[low:high])] if low < high else []
-    if high - low == 1:
+def parts_with(leaves, shown):
+    """The tree's parts, of which these leaves are shown: each its letter, and its digits if it has some."""
+    if not leaves:
         return []
-    half = 1
-    while 2 * half < high - low:
-        half *= 2
-    return hidden(leaves, low, low + half, places) + hidden(leaves, low + half, high, places)
+    if not set(leaves) & set(shown):
+        return [["H", tree_hash(leaves)]]
+    if len(leaves) == 1:
+        return [["P", *leaves]]
+    return [["N"]] + [part for half in halves(leaves) for part in parts_with(half, shown)]
 
 
 def parts(facts, digests):
-    """What a proof has: the number of leaves, the shown ones with their places, and the hashes of hidden subtrees."""
-    leaves = [bytes.fromhex(digest) for digest in sorted(set(digests))]
-    places = sorted({place for fact in facts for place in places_of(bytes.fromhex(fact), leaves)})
-    hashes = [each.hex() for each in hidden(leaves, 0, len(leaves), places)]
-    return len(leaves), [(place, leaves[place].hex()) for place in places], hashes
+    """What a proof for these facts has."""
+    leaves = sorted(set(digests))
+    return parts_with(leaves, {leaf for fact in facts for leaf in leaves_for(fact, leaves)})
+
+
+def proof_with(parts, log='"g"'):
+    """The file of a proof with these parts."""
+    return closed("".join(text + "\n" for text in ["CADF-PROOF 1", "L " + log, *map(" ".join, parts)]))
 
 
 def proof(facts, digests, log='"g"'):
     """The file of the proof for these facts."""
-    count, shown, hashes = parts(facts, digests)
-    lines = ["CADF-PROOF 1", "L %s" % log, "N %d" % count, *("P %d %s" % leaf for leaf in shown), *("H %s" % each for each in hashes)]
-    return closed("".join(line + "\n" for line in lines))
+    return proof_with(parts(facts, digests), log)
 
 
 def proved(facts, digests, log="g"):
     """The answer of the proof for these facts."""
-    count, shown, hashes = parts(facts, digests)
-    return ["ok", log, count, len(shown), *(word for leaf in shown for word in leaf), *hashes]
+    return ["ok", log, *(word for part in parts(facts, digests) for word in part)]
 
 
 MANY = [sha256(b"%d" % number).hexdigest() for number in range(33)]
-SETS = [[], [digits(C1)], [digits(C1), digits(K1)], [digits(CF), digits(KF), digits(C1)], [digits(T3), digits(C2), digits(C1), digits(C2)]]
-ROWS = [("seal", ["g", *held], made(*held), SEAL) for held in SETS]
-ROWS += [("seal", ["g", "x"], ["no inventory"], SEAL), ("root_of", ["x"], ["ok", OF_NOTHING], SEAL)]
-ROWS += [("root_of", ["g", *MANY[:size]], ["ok", root_of(MANY[:size])], SEAL) for size in (*range(10), 15, 16, 17, 31, 32, 33)]
-ROWS.append(("root_of", ["g", "x"], ["no inventory"], SEAL))
-for held in SETS:
-    for size in PIECES:
-        ROWS.append(("read_seal", [LIMIT, size, 0, seal(*held)], made(*held), SEAL))
-        ROWS.append(("write_seal", [size, "never", 0, "g", *held], ["ok", seal(*held)], SEAL))
+SETS = [[], [C1], [C1, K1], [CF, KF, C1], [line("P", "n", "1"), C2, C1, C2, line("U", "E", "e1", digits(C1))]]
+
+
+def sealed(*atoms, log="g"):
+    """The words of a seal of atoms, and its answer."""
+    own, keys = list(map(digits, atoms)), list(map(key_of, atoms))
+    return [len(own), log, *own, *keys], ["ok", log, *counted(own), *counted(keys)]
+
+
+ROWS = [("seal", *sealed(*atoms), SEAL) for atoms in SETS]
 ROWS += [
-    ("write_seal", [7, "never", 0, 'a"b'], ["ok", seal(log='"a\\"b"')], SEAL),
-    ("write_seal", [7, "never", 0, "g", "x"], ["no inventory"], SEAL),
-    ("write_seal", [1, "refuses", 18, "g"], ["err", "WriteFault", HEAD[:17]], SINKS),
-    ("write_seal", [1, "takes-nothing", 19, "g"], ["err", "WriteFault", HEAD], SINKS),
+    ("seal", [2, "g", *MANY[:5]], ["ok", "g", *counted(MANY[:2]), *counted(MANY[2:5])], SEAL),
+    ("seal", [1, "g", "x", MANY[0]], ["no inventory"], SEAL), ("seal", [1, "g", MANY[0], "x"], ["no inventory"], SEAL),
+    ("root_of", ["x"], ["ok", OF_NOTHING], SEAL), ("root_of", ["g", "x"], ["no inventory"], SEAL),
+]
+# Leaves that differ in the first bit, in the last, and in one where a byte begins or ends; those of which one is 0 or greatest.
+LOW, HIGH = 64 * "0", 64 * "f"
+ODD = [[LOW], [HIGH], [LOW, HIGH], [LOW, LOW[1:] + "1"], [HIGH, HIGH[1:] + "e"], [LOW, "7" + HIGH[1:], "8" + LOW[1:], HIGH],
+       ["%064x" % (1 << bit) for bit in (0, 7, 8, 9, 63, 64, 127, 128, 247, 248, 255)], ["%064x" % number for number in range(9)]]
+ROWS += [("root_of", ["g", *leaves], ["ok", root_of(leaves)], SEAL) for leaves in ODD]
+ROWS += [("root_of", ["g", *MANY[:size]], ["ok", root_of(MANY[:size])], SEAL) for size in (*range(10), 15, 16, 17, 31, 32, 33)]
+for atoms in SETS:
+    words, answer = sealed(*atoms)
+    for size in PIECES:
+        ROWS.append(("read_seal", [LIMIT, size, 0, seal(*atoms)], answer, SEAL))
+        ROWS.append(("write_seal", [size, "never", 0, *words], ["ok", seal(*atoms)], SEAL))
+OF_NONE = [0, OF_NOTHING]
+ROWS += [
+    ("write_seal", [7, "never", 0, 0, 'a"b'], ["ok", seal(log='"a\\"b"')], SEAL),
+    ("write_seal", [7, "never", 0, 0, "g", "x"], ["no inventory"], SEAL),
+    ("write_seal", [1, "refuses", 18, 0, "g"], ["err", "WriteFault", HEAD[:17]], SINKS),
+    ("write_seal", [1, "takes-nothing", 19, 0, "g"], ["err", "WriteFault", HEAD], SINKS),
     # A seal need not be of any set.
-    ("read_seal", [LIMIT, 7, 0, closed(HEAD + "N 0\nR %s\n" % (64 * "0"))], ["ok", "g", 0, 64 * "0"], SEAL),
-    ("read_seal", [LIMIT, 7, 0, closed(HEAD + "N %d\nR %s\n" % (2 ** 64 - 1, OF_NOTHING))], ["ok", "g", 2 ** 64 - 1, OF_NOTHING], SEAL),
-    ("read_seal", [156, 7, 0, seal()], made(), LIMITS),
-    ("read_seal", [155, 7, 0, seal()], ["err", "TooLarge"], LIMITS),
+    ("read_seal", [LIMIT, 7, 0, seal_with('"g"', 0, LOW, 7, LOW)], ["ok", "g", 0, LOW, 7, LOW], SEAL),
+    ("read_seal", [LIMIT, 7, 0, seal_with('"g"', 2 ** 64 - 1, HIGH, *OF_NONE)], ["ok", "g", 2 ** 64 - 1, HIGH, *OF_NONE], SEAL),
+    ("read_seal", [LIMIT, 7, 0, seal_with('"g"', *OF_NONE, 2 ** 64 - 1, HIGH)], ["ok", "g", *OF_NONE, 2 ** 64 - 1, HIGH], SEAL),
+    ("read_seal", [227, 7, 0, seal()], sealed()[1], LIMITS),
+    ("read_seal", [226, 7, 0, seal()], ["err", "TooLarge"], LIMITS),
     ("read_seal", [LIMIT, 4096, 2, seal()], ["err", "ReadFault"], LIMITS),
 ]
 
 # Facts that are leaves and facts that are none, among trees of many sizes: the first leaf, the last, one in the middle,
 # some, all; before all, behind all, behind the middle, two between the same leaves; and none at all.
-LOW, HIGH = 64 * "0", 64 * "f"
 BETWEEN = [sha256(b"no leaf %d" % number).hexdigest() for number in range(4)]
 
 
@@ -128,14 +169,17 @@ def fact_sets(digests):
     yield from ([], [LOW], [HIGH], [LOW, HIGH], BETWEEN[:1], BETWEEN)
     if leaves:
         middle = leaves[len(leaves) // 2]
-        first, second = ("%064x" % (int(middle, 16) + more) for more in (1, 2))
+        first, second = ("%064x" % min(int(middle, 16) + more, int(HIGH, 16)) for more in (1, 2))
         yield from ([leaves[0]], [leaves[-1]], [middle], [first], [first, second], [middle, first], leaves[::2], leaves)
 
 
 for size in (*range(6), 7, 8, 9, 17):
     for facts in dict.fromkeys(map(tuple, fact_sets(MANY[:size]))):
         ROWS.append(("proof", [len(facts), "g", *facts, *MANY[:size]], proved(facts, MANY[:size]), PROOF))
-for held in SETS:
+for leaves in ODD:
+    for facts in dict.fromkeys(map(tuple, fact_sets(leaves))):
+        ROWS.append(("proof", [len(facts), "g", *facts, *leaves], proved(facts, leaves), PROOF))
+for held in (list(map(digits, atoms)) for atoms in SETS):
     for facts in ([], [digits(C1)], [digits(K1), LOW]):
         ROWS += [
             ("write_proof", [size, "never", 0, len(facts), "g", *facts, *held], ["ok", proof(facts, held)], PROOF) for size in PIECES]
@@ -149,17 +193,33 @@ ROWS += [
 ]
 
 # What is refused, and how.
-COUNT, ROOT = "N 0\n", "R %s\n" % OF_NOTHING
+COUNT, ROOT, KEYS, KEYS_ROOT = "N 0\n", "R %s\n" % OF_NOTHING, "M 0\n", "S %s\n" % OF_NOTHING
+THREE, FOUR, FIVE, SIX = HEAD + COUNT, HEAD + COUNT + ROOT, HEAD + COUNT + ROOT + KEYS, HEAD + COUNT + ROOT + KEYS + KEYS_ROOT
+
+
+def odd_counts(letter):
+    """Lines that are nearly `N 0` or `M 0`."""
+    return ["%s %s" % (letter, each) for each in ("00", "+1", "-1", "", " 0", "0 ", str(2 ** 64), "9" * 21)] + [letter.lower() + " 0", letter, "", "\t"]
+
+
+def odd_roots(letter):
+    """Lines that are nearly a root."""
+    return ["%s %s" % (letter, each) for each in (OF_NOTHING.upper(), OF_NOTHING[1:], OF_NOTHING + "0", " " + OF_NOTHING, "g" + OF_NOTHING[1:], "")] + [
+        letter + OF_NOTHING, OF_NOTHING, "", letter.lower() + " " + OF_NOTHING]
+
+
+for front, number, lines in [
+    (HEAD, 3, [*odd_counts("N"), ROOT[:-1], KEYS[:-1]]), (THREE, 4, [*odd_roots("R"), COUNT[:-1], KEYS_ROOT[:-1]]),
+    (FOUR, 5, [*odd_counts("M"), COUNT[:-1], ROOT[:-1], KEYS_ROOT[:-1]]), (FIVE, 6, [*odd_roots("S"), ROOT[:-1], KEYS[:-1]]),
+    (SIX, 7, [KEYS_ROOT[:-1], COUNT[:-1], ""]),
+]:
+    ROWS += [("read_seal", [LIMIT, 4096, 0, front + each + "\n"], refused("Line %d Shape" % number), REFUSAL) for each in lines]
 for text, fault in [
     ("", "Truncated"), ("CADF-SEAL 2\n", "Version"), ("CADF-INVENTORY 1\n", "Version"), ("CADF-SEAL 1\nL g\n", "LogLine"),
-    (HEAD, "Truncated"), (HEAD + COUNT, "Truncated"), (HEAD + COUNT + ROOT, "Truncated"), (seal()[:-1], "Truncated"),
-    (HEAD + ROOT, "Line 3 Shape"), (HEAD + "N 00\n", "Line 3 Shape"), (HEAD + "N +1\n", "Line 3 Shape"), (HEAD + "N -1\n", "Line 3 Shape"),
-    (HEAD + "N \n", "Line 3 Shape"), (HEAD + "N  0\n", "Line 3 Shape"), (HEAD + "N 0 \n", "Line 3 Shape"), (HEAD + "n 0\n", "Line 3 Shape"),
-    (HEAD + "N %d\n" % 2 ** 64, "Line 3 Shape"), (HEAD + "\n", "Line 3 Shape"), (HEAD.encode() + b"N \xff\n", "Line 3 Shape"),
-    (HEAD + COUNT + COUNT, "Line 4 Shape"), (HEAD + COUNT + "R %s\n" % OF_NOTHING.upper(), "Line 4 Shape"),
-    (HEAD + COUNT + "R %s\n" % OF_NOTHING[1:], "Line 4 Shape"), (HEAD + COUNT + "R %s0\n" % OF_NOTHING, "Line 4 Shape"),
-    (HEAD + COUNT + OF_NOTHING + "\n", "Line 4 Shape"), (HEAD + COUNT + ROOT + ROOT, "Line 5 Shape"), (HEAD + COUNT + ROOT + "\n", "Line 5 Shape"),
-    (closed(HEAD), "Line 2 Unended"), (closed(HEAD + COUNT), "Line 3 Unended"), (HEAD + "Z\n", "Line 2 Unended"),
-    (HEAD + COUNT + ROOT + "Z %s\n" % OF_NOTHING, "Digest"), (HEAD + COUNT + ROOT + "Z\n", "Digest"), (seal() + "\n", "Trailing"),
+    *((each, "Truncated") for each in (HEAD, THREE, FOUR, FIVE, SIX, seal()[:-1])),
+    (HEAD.encode() + b"N \xff\n", "Line 3 Shape"), (FIVE.encode() + b"S \xff\n", "Line 6 Shape"),
+    *((closed(each), "Line %d Unended" % number) for number, each in enumerate((HEAD, THREE, FOUR, FIVE), 2)),
+    (HEAD + "Z\n", "Line 2 Unended"), (FIVE + "Z\n", "Line 5 Unended"),
+    (SIX + "Z %s\n" % OF_NOTHING, "Digest"), (SIX + "Z\n", "Digest"), (seal() + "\n", "Trailing"),
 ]:
     ROWS += [("read_seal", [LIMIT, size, 0, text], refused(fault), REFUSAL) for size in PIECES]
