@@ -310,12 +310,12 @@ IN_ORDER = [
     ("verify", [SEALED_NONE, OTHER, SEALED_NONE], ["Input", 3, "File", "Version"]),
     ("verify", [SEALED_NONE, OTHER, OTHER_PROVED], ["OtherLog", 2]),
     ("verify", [SEALED_NONE, EVENT, OTHER_PROVED], ["OtherLog", 3]),
-    ("verify", [SEALED_NONE, EVENT, ONE_PROVED], ["Unverified", "OtherCount"]),
-    ("verify", [ONE_SEALED, EVENT, reader(proof([digits(C2)], [digits(C2)]))], ["Unverified", "OtherRoot"]),
+    ("verify", [SEALED_NONE, EVENT, ONE_PROVED], ["Unverified", "Proof", "OtherCount"]),
+    ("verify", [ONE_SEALED, EVENT, reader(proof([digits(C2)], [digits(C2)]))], ["Unverified", "Proof", "OtherRoot"]),
     ("verify", [ONE_SEALED, EVENT, reader(proof([], [digits(C1)]))], ["Unverified", "NotShown", 1]),
-    ("verify", [reader(seal(C1, C2)), EVENT, reader(proof([digits(C1), digits(C2)], [digits(C1), digits(C2)]))], ["Unverified", "NotNeeded"]),
+    ("verify", [reader(seal(C1, C2)), EVENT, reader(proof([digits(C1), digits(C2)], [digits(C1), digits(C2)]))], ["Unverified", "Proof", "NotNeeded"]),
     ("verify", [ONE_SEALED, GOOD, OTHER_PROVED], ["OtherLog", 3]),
-    *(("verify", [reader(of), reader(replica(*facts)), reader(by)], ["Unverified", fault]) for of, by, word, facts, fault in WRONG
+    *(("verify", [reader(of), reader(replica(*facts)), reader(by)], ["Unverified", "Proof", fault]) for of, by, word, facts, fault in WRONG
       if word == "present" and fault in ("NoTree", "Order", "NeighbourHidden") and len(by) < 1000),
     ("verify", [SEALED_NONE, GOOD, ONE_PROVED], ["NoFacts", 2]),
     ("verify --absent", [ONE_SEALED, reader(made.NOTHING_TREE), ONE_PROVED], ["NoFacts", 2]),

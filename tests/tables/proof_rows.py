@@ -9,7 +9,7 @@ import json
 from tests.tables.seal_rows import HIGH, LOW, OF_NONE, closed, hashed, proof, proof_with, root_at, seal, seal_with
 from tests.tables.texts import B1, LIMIT, LIMITS, PIECES, digits, line, quoted, refused
 
-CALLS = {"read_proof": ["read_model", "Proof::log", "Proof::parts"], "verified": ["verified", "FactLines::write"]}
+CALLS = {"read_proof": ["read_model", "Proof::log", "Proof::facts", "Proof::keys"], "verified": ["verified", "FactLines::write"]}
 
 PROOF = "Proof file"
 SHOWN = 'CADF-PROOF 1\nL "g"\n'
@@ -193,6 +193,12 @@ WRONG = [
 ]
 
 
+def words_of(fault):
+    """The words of a fault of a fact by its number, or of the proof."""
+    name, *number = fault.split()
+    return [name, *number] if number else ["Proof", name]
+
+
 def verified(seal, proof, word, facts, answer, size=4096):
     return "verified", [LIMIT, size, 0, seal, proof, word, "g", *facts], answer, SAYS
 
@@ -200,6 +206,6 @@ def verified(seal, proof, word, facts, answer, size=4096):
 ROWS += [verified(seal, proof, word, facts, ["ok", told(word, facts)]) for seal, proof, word, facts in RIGHT]
 # Each fact has its line, also those of one key. They are written in pieces.
 ROWS += [verified(*honest(OF_KEYS, OF_KEYS), "present", OF_KEYS, ["ok", told("present", OF_KEYS)], size) for size in PIECES]
-ROWS += [verified(seal, proof, word, facts, ["err", *fault.split()]) for seal, proof, word, facts, fault in WRONG]
+ROWS += [verified(seal, proof, word, facts, ["err", *words_of(fault)]) for seal, proof, word, facts, fault in WRONG]
 ROWS += [verified(*honest([], SEALED), word, [], ["ok", ""]) for word in ("present", "absent")]
-ROWS += [verified(*EMPTY, "absent", [], ["ok", ""]), verified(*made(1, ONE), "present", [], ["err", "NotNeeded"])]
+ROWS += [verified(*EMPTY, "absent", [], ["ok", ""]), verified(*made(1, ONE), "present", [], ["err", *words_of("NotNeeded")])]

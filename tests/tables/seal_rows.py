@@ -11,11 +11,11 @@ from hashlib import sha256
 from tests.tables.texts import C1, C2, CF, K1, KF, LIMIT, LIMITS, PIECES, SINKS, digits, line, refused
 
 CALLS = {
-    "seal": ["Seal::of", "Seal::log", "Seal::count", "Seal::root", "Seal::keys", "Seal::keys_root"],
-    "root_of": ["root_of"],
+    "seal": ["Seal::over", "Seal::log", "Seal::facts", "Seal::keys"],
+    "root_of": ["Seal::over"],
     "read_seal": ["read_model"],
     "write_seal": ["write_model"],
-    "proof": ["Proof::of", "Proof::log", "Proof::parts"],
+    "proof": ["Proof::of", "Proof::log", "Proof::facts", "Proof::keys"],
     "write_proof": ["write_model"],
 }
 
