@@ -29,7 +29,8 @@ import cadf_toolkit
 
 ROOT = hashlib.sha256(b"").hexdigest()
 HEAD = 'CADF-SITE-SEAL 1\nL "g"\nB day\n'
-SHARED, DAY, NEXT = ("W %s 1 %s\n" % (part, ROOT) for part in ("shared", "2024-02-29", "2024-03-01"))
+KEYS = hashlib.sha256(b"keys").hexdigest()
+SHARED, DAY, NEXT = ("W %s 1 %s 2 %s\n" % (part, ROOT, KEYS) for part in ("shared", "2024-02-29", "2024-03-01"))
 ONLY_ROOTS = "whether facts were only added, roots don't say"
 NO_SEAL, DAMAGED = "no seal of a folder, as `cadf-seal SITE/` writes it", "it is damaged: have it sent again"
 MOST = 2 ** 28  # bytes of memory
@@ -210,11 +211,12 @@ def test_compare(seals):
 
 
 def test_compare_of_as_many_facts(seals):
-    """A root tells more than a count; `shared` comes first."""
-    seals.put("old", with_digest((HEAD + SHARED + NEXT).encode()))
-    seals.put("now", with_digest((HEAD + SHARED.replace("e3", "e4") + DAY + NEXT).encode()))
-    lines = b"shared: facts then 1, now 1\n2024-02-29: facts then 0, now 1\n"
-    said = ["cadf-seal: windows that differ: 2 of 3; " + ONLY_ROOTS]
+    """A root tells more than a count, that of the keys too; `shared` comes first."""
+    last = NEXT.replace("2024-03-01", "2024-03-02")
+    seals.put("old", with_digest((HEAD + SHARED + NEXT + last).encode()))
+    seals.put("now", with_digest((HEAD + SHARED.replace("e3", "e4") + DAY + NEXT + last.replace(KEYS, ROOT)).encode()))
+    lines = b"shared: facts then 1, now 1\n2024-02-29: facts then 0, now 1\n2024-03-02: facts then 1, now 1\n"
+    said = ["cadf-seal: windows that differ: 3 of 4; " + ONLY_ROOTS]
     assert seals.run("--compare", "old", "now") == (5, lines, said)
     assert seals.run("--compare", "now", "old") == (5, lines.replace(b"0, now 1", b"1, now 0"), said)
 
@@ -238,8 +240,9 @@ REFUSED = [
     ("CADF-SITE-SEAL 1\nL [\"g\"]\n", "log line"), ("CADF-SITE-SEAL 1\nZ\n", "log line"), (b'CADF-SITE-SEAL 1\nL "\xff"\n', "log line"), ("CADF-SITE-SEAL 1\n\n", "log line"),
     (HEAD[:-6] + "Z\n", "line 2: unended"), (HEAD[:-6] + "B week\n", "line 3: shape"), (HEAD[:-6] + "B day \n", "line 3: shape"), (HEAD[:-6] + "\n", "line 3: shape"),
     (HEAD[:-6] + DAY, "line 3: shape"), (HEAD, "truncated"), (HEAD + DAY, "truncated"), (HEAD + DAY[:-1], "truncated"),
-    (HEAD + DAY.replace(" 1 ", " 0 "), "line 4: shape"), (HEAD + DAY.replace(" 1 ", " 01 "), "line 4: shape"), (HEAD + DAY.replace(" 1 ", " -1 "), "line 4: shape"),
-    (HEAD + DAY.replace(" 1 ", " %d " % 2 ** 64), "line 4: shape"), (HEAD + DAY.replace(" 1 ", " \u0661 "), "line 4: shape"), (HEAD + DAY.replace("e3", "E3"), "line 4: shape"),
+    (HEAD + DAY.replace(" 1 ", " 0 "), "line 4: shape"), (HEAD + DAY.replace(" 2 ", " 0 "), "line 4: shape"), (HEAD + DAY.replace(" 2 ", " 02 "), "line 4: shape"), (HEAD + DAY.replace(" 1 ", " 01 "), "line 4: shape"), (HEAD + DAY.replace(" 1 ", " -1 "), "line 4: shape"),
+    (HEAD + DAY.replace(" 1 ", " %d " % 2 ** 64), "line 4: shape"), (HEAD + DAY.replace(" 2 ", " %d " % 2 ** 64), "line 4: shape"), (HEAD + DAY.replace(" 2 " + KEYS, ""), "line 4: shape"),
+    (HEAD + DAY.replace(" 2 " + KEYS, " 2"), "line 4: shape"), (HEAD + DAY.replace("\n", " 2 %s\n" % KEYS), "line 4: shape"), (HEAD + DAY.replace(" 1 ", " \u0661 "), "line 4: shape"), (HEAD + DAY.replace("e3", "E3"), "line 4: shape"),
     (HEAD + DAY.replace("W", "F"), "line 4: shape"), (HEAD + DAY.replace(" ", "  "), "line 4: shape"), (HEAD + DAY[:-1] + " \n", "line 4: shape"), (HEAD + "\n", "line 4: shape"),
     (HEAD + DAY.replace("-29", ""), "line 4: shape"), (HEAD + DAY.replace("-29", "-29T12"), "line 4: shape"), (HEAD + DAY.replace("2024-02-29", "all"), "line 4: shape"),
     (HEAD.encode() + b"W \xff\n", "line 4: shape"), (HEAD + "W " + "x" * 2 ** 17 + "\n", "line 4: shape"), (HEAD + DAY + "\n", "line 5: shape"),
@@ -253,7 +256,7 @@ def read_by_both(data):
     """What the tool's reader and the second implementation say of a file: its refusal, or its log, its unit and its lines."""
     try:
         found = cadf_seals.lines_in(io_of(data), cadf_seals.SiteSeal)
-        parts = {part: (count, bytes.fromhex(root.decode())) for part, (count, root) in found.parts.items()}
+        parts = {part: (facts, bytes.fromhex(root), keys, bytes.fromhex(key_root)) for part, (facts, root, keys, key_root) in found.parts.items()}
         own = found.name(), found.unit, parts
         assert found.bytes() == data
     except cadf_seals.Refused as fault:
@@ -281,8 +284,8 @@ def test_refused(text, refusal):
 
 
 def test_greatest_count():
-    data = with_digest((HEAD + DAY.replace(" 1 ", " %d " % (2 ** 64 - 1))).encode())
-    assert read_by_both(data) == ("g", "day", {"2024-02-29": (2 ** 64 - 1, hashlib.sha256(b"").digest())})
+    data, greatest = with_digest((HEAD + DAY.replace(" 1 ", " %d " % (2 ** 64 - 1)).replace(" 2 ", " %d " % (2 ** 64 - 1))).encode()), 2 ** 64 - 1
+    assert read_by_both(data) == ("g", "day", {"2024-02-29": (greatest, hashlib.sha256(b"").digest(), greatest, hashlib.sha256(b"keys").digest())})
 
 
 def test_each_bit_and_each_prefix():
@@ -456,7 +459,7 @@ def test_roots_of_another_tree_serve_nobody(seals):
     seals.site.takes(contents(0, 2))
     seals.writes("site")
     with sqlite3.connect(seals.site.folder / ".index") as connection:
-        assert connection.execute("UPDATE kept SET kind = 'root 2', value = '7 ' || substr(value, 3)").rowcount > 0
+        assert connection.execute("UPDATE kept SET kind = 'roots 2', value = '7 ' || substr(value, 3)").rowcount > 0
     connection.close()
     assert seals.writes("site") == site_seal_of("g", atoms_of(contents(0, 2)), "day")
 
@@ -464,10 +467,11 @@ def test_roots_of_another_tree_serve_nobody(seals):
 # ---- Copies that do wrong
 
 @pytest.mark.parametrize("check, right, wrong", [
-    (test_seal_of_a_folder, "root = sealed(list(files.values()))", "root = sealed(list(files.values())[:1])"),
+    (test_seal_of_a_folder, "sealed(list(files.values())) if files", "sealed(list(files.values())[:1]) if files"),
     (test_seal_of_a_folder, "itertools.starmap(self.lines, self.parts.items())", "itertools.starmap(self.lines, sorted(self.parts.items()))"),
     (test_a_fact_in_another_window_is_refused, "check_part(index, part, files) if files else \"\"", "\"\""),
-    (test_windows, "= self.parts.get(part, NOTHING)\n", "= self.parts.get(part, (1, NOTHING[1]))\n"),
+    (test_windows, "*self.parts.get(part, NOTHING)))", "*self.parts.get(part, NOTHING)[::-1]))"),
+    (test_windows, "*self.parts.get(part, NOTHING)))", "*2 * self.parts.get(part, NOTHING)[:2]))"),
     (test_windows, "B (%s)\" % \"|\".join(UNITS)", "B (%s)\" % \"|\".join([*UNITS][::2])"),
     (test_compare_of_as_many_facts, "sorted({*then.parts, *now.parts} - damaged.keys(), key=order)", "sorted(now.parts, key=order)"),
     (test_compare_of_as_many_facts, "if then.parts.get(part) != now.parts.get(part)]", "if then.parts.get(part, NOTHING)[0] != now.parts.get(part, NOTHING)[0]]"),

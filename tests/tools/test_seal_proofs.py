@@ -1,5 +1,6 @@
 """cadf-seal: proofs of facts under the seals of sites, beside the second implementation's; what is refused; what liars try."""
 import functools
+import hashlib
 import json
 import os
 import random
@@ -64,13 +65,21 @@ def wanted(value, proof, word):
         return fault.said
 
 
+def lines_without_digests(output, value):
+    """The lines of a document's facts without the digests behind, which have to be those of the facts, in order."""
+    lines = output.decode().splitlines()
+    atoms = [json.dumps(atom, ensure_ascii=False, separators=(",", ":")).encode() for atom in sorted(document(value)[1], key=lambda atom: (atom[0] == "E", atom))]
+    assert [line[-64:] for line in lines] == [hashlib.sha256(atom).hexdigest() for atom in atoms]
+    return [line[:-65] for line in lines]
+
+
 # ---- What is shown
 
 def test_present(proofs):
     proof = proofs.proves(ASKED)
     assert proof == site_proof_of("g", atoms_of(ASKED), atoms_of(*HELD), "day")
-    lines = b'present P "name"\npresent E "e0"\npresent E "e0"\npresent E "e2"\npresent E "e2"\n'
-    assert wanted(ASKED, proof, "present") == lines
+    lines = wanted(ASKED, proof, "present")
+    assert lines_without_digests(lines, ASKED) == ['present P "name"', *['present E "e0"'] * 2, *['present E "e2"'] * 2]
     assert proofs.says(ASKED, proof) == (0, lines, [])
     assert proofs.says(ASKED, proof, "--absent") == (1, b"", ["cadf-seal: shared of facts: fact 1: present"])
 
@@ -78,8 +87,8 @@ def test_present(proofs):
 def test_absent(proofs):
     proof = proofs.proves(NOT_HELD)
     assert proof == site_proof_of("g", atoms_of(NOT_HELD), atoms_of(*HELD), "day")
-    lines = b'absent P "name"\nabsent R "r"\nabsent E "e6"\nabsent E "e6"\nabsent E "e8"\nabsent E "e8"\n'
-    assert wanted(NOT_HELD, proof, "absent") == lines
+    lines = wanted(NOT_HELD, proof, "absent")
+    assert lines_without_digests(lines, NOT_HELD) == ['absent P "name"', 'absent R "r"', *['absent E "e6"'] * 2, *['absent E "e8"'] * 2]
     assert proofs.says(NOT_HELD, proof, "--absent") == (0, lines, [])
     assert proofs.says(NOT_HELD, proof) == (1, b"", ["cadf-seal: shared of facts: fact 1: absent"])
 
@@ -88,7 +97,8 @@ def test_a_window_that_is_not_there(proofs):
     """What is of a window that the seal doesn't list is absent, though an event of that name is there on another day."""
     proof = proofs.proves(LATER)
     assert proof == site_proof_of("g", atoms_of(LATER), atoms_of(*HELD), "day") and b"\nW 2024-03-05\nCADF-PROOF 1\n" in proof
-    assert proofs.says(LATER, proof, "--absent") == (0, b'absent E "e0"\n', [])
+    status, output, said = proofs.says(LATER, proof, "--absent")
+    assert (status, lines_without_digests(output, LATER), said) == (0, ['absent E "e0"'], [])
     assert proofs.says(LATER, proof) == (1, b"", ["cadf-seal: 2024-03-05 of facts: fact 1: absent"])
 
 
@@ -96,7 +106,8 @@ def test_facts_of_each_kind_of_file(proofs):
     """A document, a replica file, and an event alone, which names no log."""
     event = dict(ASKED["events"][0])
     proof = proofs.proves(event)
-    assert proofs.says(event, proof) == (0, b'present E "e0"\npresent E "e0"\n', [])
+    status, output, said = proofs.says(event, proof)
+    assert (status, lines_without_digests(output, {"id": "g", "events": [event]}), said) == (0, ['present E "e0"'] * 2, [])
     proofs.put("replica", file_of("g", document({"id": "g", "events": [event]})[1]))
     assert proofs.writes("--prove", "replica", "site") == proof
     assert proofs.run("--verify", "seal", "replica", "proof")[0] == 0
@@ -229,8 +240,8 @@ REFUSED = [
     (PROOF_HEAD[:-6] + "Z\n", "line 2: unended"), (PROOF_HEAD[:-6] + "B week\n", "line 3: shape"), (PROOF_HEAD + "\n", "line 4: shape"), (PROOF_HEAD + "W\n", "line 4: shape"),
     (PROOF_HEAD + PART, "line 4: shape"), (PROOF_HEAD + "W 2024-03\n", "line 4: shape"), (PROOF_HEAD + "W 2024-03-01 \n", "line 4: shape"), (PROOF_HEAD + "W all\n", "line 4: shape"),
     (PROOF_HEAD.encode() + b"W \xff\n", "line 4: shape"), (PROOF_HEAD + "W 2024-03-01\n", "truncated"), (PROOF_HEAD + "W 2024-03-01\n" + PART, "truncated"),
-    (PROOF_HEAD + WHOLE % "2024-03-01" + "\n", "line 9: shape"), (PROOF_HEAD + WHOLE % "2024-03-01" + WHOLE % "2024-03-01", "line 9: order"),
-    (PROOF_HEAD + WHOLE % "2024-03-01" + WHOLE % "2024-02-29", "line 9: order"), (PROOF_HEAD + WHOLE % "2024-03-01" + WHOLE % "shared", "line 9: order"),
+    (PROOF_HEAD + WHOLE % "2024-03-01" + "\n", "line 8: shape"), (PROOF_HEAD + WHOLE % "2024-03-01" + WHOLE % "2024-03-01", "line 8: order"),
+    (PROOF_HEAD + WHOLE % "2024-03-01" + WHOLE % "2024-02-29", "line 8: order"), (PROOF_HEAD + WHOLE % "2024-03-01" + WHOLE % "shared", "line 8: order"),
     (PROOF_HEAD + "Z\n", "digest"), (PROOF_HEAD + WHOLE % "2024-03-01" + "Z %s\n" % ROOT, "digest"), (PROOF_HEAD + "W 2024-03-01\nZ\nZ\n", "digest"),
     (with_digest((PROOF_HEAD + WHOLE % "2024-03-01").encode()) + b"\n", "trailing bytes"), (with_digest((PROOF_HEAD + WHOLE % "2024-03-01").encode())[:-1], "truncated"),
 ]
@@ -271,8 +282,8 @@ def test_each_bit_and_each_prefix():
 def test_proofs_in_it_are_judged(proofs):
     """A line of a proof in it is refused as in a proof by itself."""
     parts = parts_in(proofs.proves(ASKED))
-    for right, wrong, said in [(b"\nN ", b"\nN 0", "line 3: shape"), (b"\nP ", b"\nQ ", "line 4: shape"),
-                               (b"CADF-PROOF 1", b"CADF-PROOF 2", "version"), (b"\nN ", b"\n" + b"x" * 2 ** 17 + b"\nN ", "line 3: shape")]:
+    for right, wrong, said in [(b"\nP ", b"\nQ ", "line 3: shape"), (b"CADF-PROOF 1", b"CADF-PROOF 2", "version"),
+                               (b"\nP ", b"\n" + b"x" * 2 ** 17 + b"\nP ", "line 3: shape")]:
         damaged = with_parts(*((name, data.replace(right, wrong, 1)) for name, data in parts.items()))
         status, output, lines = proofs.says(ASKED, damaged)
         assert (status, output) == (1, b"") and lines[0].startswith("cadf-seal: shared of proof: " + said), lines
