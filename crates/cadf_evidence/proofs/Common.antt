@@ -4,10 +4,10 @@ pub use Rattle.cadf_event.proofs.LogNameLemmas.{both_unbroken, unbroken_quoted}
 pub use Rattle.cadf_event.specs.Known.{IsNameText}
 pub use Rattle.cadf_event.specs.LogName.{is_name_text, is_unbroken}
 pub use Rattle.cadf_evidence.specs.Growth.{all_gone_fault, error_of, first_unlisted, gone_fault, growth_of, growth_text, is_listed, keys_growth, later_fault, log_fault, placed, told_growth, unless_log, unlisted}
+pub use Rattle.cadf_evidence.specs.Made.{AllGoneAreListed, FactsProofIsTold, GrowthProofIsTold, facts_growth, keys_growth_parts}
 unfoldable pub use Rattle.cadf_evidence.specs.Marked.{digest_after, number_after, rest_after}
 pub use Rattle.cadf_evidence.specs.ProofFile.{AreKeyParts, AreParts, HasProofParts, IsPart, IsProof, ProofFileIsInjective, ProofModel, keys_line, keys_lines, node_line, part_line, proof_body, proof_header, proof_lines}
 pub use Rattle.cadf_evidence.specs.ProofLines.{AreTold, IsPutInto}
-pub use Rattle.cadf_evidence.specs.ProofMade.{MadeProofIsAccepted}
 pub use Rattle.cadf_evidence.specs.ProofVerdict.{cause_after, facts_in, have_begun, keys_in, parts_in, proof_kind, proof_model_in}
 unfoldable pub use Rattle.cadf_evidence.specs.ProofVerdict.{leaf_in, part_in, starts_keys}
 pub use Rattle.cadf_evidence.specs.SealFile.{IsRoot, IsSeal, SealFileIsInjective, SealModel, digest_line, number_line, seal_body, seal_header, seal_of}
@@ -52,11 +52,12 @@ pub use Rattle.cadf_linefile.specs.Verdict.{begins_digest, log_line, with_digest
 pub use Rattle.cadf_linefile.specs.declared.fault.Cause.TheVariants.{Shape}
 pub use Rattle.cadf_linefile.specs.laws.Prefixes.{front_after, front_more}
 pub use Rattle.cadf_set.specs.Inventory.{AreDigests, InventoryModel}
-pub use Rattle.cadf_tree.specs.Grown.{all_needed, are_equal, fault_unless, growth_unless, hidden_leaves, is_hash, is_text, order_fault, tree_fault, verdict}
+pub use Rattle.cadf_tree.specs.Grown.{all_needed, are_equal, fault_unless, growth_unless, hidden_leaves, is_text, order_fault, tree_fault, verdict}
 pub use Rattle.cadf_tree.specs.GrowthLaws.{AreRising, BothAreHonest, DoNotCollide, HasHash, HaveHashes, IsDifference, IsHashedForBoth, Marked, is_added, is_gone, those}
+pub use Rattle.cadf_tree.specs.GrowthMade.{GrowthIsComplete}
 pub use Rattle.cadf_tree.specs.Made.{Kinds, any_shown, first_kind, made_leaf, made_parts, preorder, size}
-pub use Rattle.cadf_tree.specs.Presence.{PresenceIsSound, all_asked, first_part, member, needs, shown, state}
-pub use Rattle.cadf_tree.specs.PresenceMade.{PresenceIsComplete, asked_kinds, presence_parts}
+pub use Rattle.cadf_tree.specs.Presence.{PresenceIsSound, member, shown, state}
+pub use Rattle.cadf_tree.specs.PresenceMade.{PresenceIsComplete, asked_kinds, first_digest, is_between, kind_if, presence_parts}
 pub use Rattle.cadf_tree.specs.Pruned.{Fork, Hidden, is_earlier, is_later, items, leaves_of, number}
 pub use Rattle.cadf_tree.specs.Tree.{Branch, IsSet, Tip, Tree, all_leaves, hash, leaf_text, leaves, node_text, root, root_hash, root_text, tree_hash, tree_of}
 pub use Rattle.cadf_tree.specs.declared.growth.Growth.{Growth}
@@ -69,7 +70,7 @@ pub use Rattle.cadf_tree.specs.declared.parts.Part.TheVariants.{Hash, Leaf, Node
 pub use Rattle.cadf_tree.specs.declared.tree.Root.{Root}
 pub use Rattle.hex.specs.Hex.{encode_lower}
 pub use Rattle.sha2.proofs.Facts256.{length-sha256}
-pub use Rattle.std.proofs.Common.{Bool, Err, List, None, Ok, Option, Result, Some, [], ap, append-nil, append_assoc, arith, cond, drop, false, flat_map, get_or, if◌then◌else◌, inl, inr, length, map, not, refl, rules, subst, sym, take, true, true≢false, ℕ, ◌&&◌, ◌++◌, ◌+◌, ◌<◌, ◌^◌, ◌∙◌, ◌∷◌, ◌≡◌, ◌≤◌}
+pub use Rattle.std.proofs.Common.{Bool, Err, List, None, Ok, Option, Result, Some, [], ap, append-nil, append_assoc, arith, cond, drop, false, flat_map, get_or, if◌then◌else◌, inl, inr, length, map, not, refl, rules, subst, sym, take, true, true≢false, ℕ, ◌++◌, ◌+◌, ◌<◌, ◌^◌, ◌∙◌, ◌∷◌, ◌≡◌, ◌≤◌}
 pub use Rattle.std.proofs.KnownBytes.{Appends-trans}
 pub use Rattle.std.proofs.Math.Seq.{drop-append_seam, take-append_seam}
 pub use Rattle.std.proofs.lemmas.Bool.{eq-eqb, false_from_ne_true, le-leb, le-ltb}
@@ -82,5 +83,5 @@ pub use Rattle.std.specs.Io.KnownBytes.{Appends}
 pub use Rattle.std.specs.List.{AllByRecursion, list_any}
 pub use Rattle.std.specs.Option.{option_or}
 pub use Rattle.std.specs.Ordering.{is_lt, nat_cmp}
-pub use Rattle.std.specs.Prelude.{IfErr, codes, decimal, is_some, nat_eq, option_and_then, option_map, unwrap_or, ◌||◌, ◌⊎◌}
+pub use Rattle.std.specs.Prelude.{IfErr, codes, decimal, is_some, nat_eq, option_and_then, option_map, unwrap_or, ◌&&◌, ◌||◌, ◌⊎◌}
 pub use Rattle.std.specs.Str.{bytes_eq}

@@ -62,7 +62,7 @@ all_listed list (Leaf Went d ∷ ps) e = let p = both_none (unlisted list (Leaf 
 
 -- ---- both sets
 
-keys_are_set : (held : Contents) → IsSet (key_digests held)
+pub keys_are_set : (held : Contents) → IsSet (key_digests held)
 keys_are_set held = digests_are_set (keys_of held) (λ d h. let x = digest_of_some key_digest held d h in subst IsDigest (sym x.2) (sha_digest _))
 
 given_are : (o : Option (List Part)) → AreKeyParts o → AreParts (given_parts o)

@@ -1,9 +1,9 @@
-mod AcceptedProofs
 mod AlikeLines
 mod EqualSeals
 mod GrownSets
 mod MadeProofs
 mod MarkedLemmas
+mod ProofForm
 mod ProofLineLemmas
 mod SealLemmas
 mod SetsOfDigests

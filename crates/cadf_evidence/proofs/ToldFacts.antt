@@ -16,7 +16,7 @@ have_hashes (Leaf k d ∷ ps) each = (tt, have_hashes ps each.1)
 same_text : (x y : Text) → is_text x y ≡ true → x ≡ y
 same_text x y e = (bytes_eq-Decides x y).0 e
 
-member_listed : (f : Text) (ds : List Text) → member f ds ≡ true → Listed f ds
+pub member_listed : (f : Text) (ds : List Text) → member f ds ≡ true → Listed f ds
 member_listed f [] e = absurd (true≢false (sym e))
 member_listed f (d ∷ ds) e = by (is_text d f) refl e (λ k. member_listed f ds k)
   where
@@ -32,7 +32,7 @@ listed_member f [] l = absurd l
 listed_member f (d ∷ ds) (inl e) = ap (λ b. b || member f ds) (ap (λ x. is_text d x) e ∙ (bytes_eq-Decides d d).1 refl)
 listed_member f (d ∷ ds) (inr l) = or_right (is_text d f) (member f ds) (listed_member f ds l)
 
-pub member_has : (s : Digests) (f : Text) (b : Bool) → member f (rising s) ≡ b → set.contains s f ≡ b
+member_has : (s : Digests) (f : Text) (b : Bool) → member f (rising s) ≡ b → set.contains s f ≡ b
 member_has s f true e = listed-rising text_total text_same s f (member_listed f (rising s) e)
 member_has s f false e =
     false_from_ne_true (set.contains s f) (λ h. true≢false (sym (listed_member f (rising s) (rising-listed text_total text_same s f h)) ∙ e))

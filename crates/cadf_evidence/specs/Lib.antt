@@ -1,9 +1,9 @@
 pub mod Fault
 pub mod Growth
+pub mod Made
 pub mod Marked
 pub mod ProofFile
 pub mod ProofLines
-pub mod ProofMade
 pub mod ProofVerdict
 pub mod SealFile
 pub mod SealLines

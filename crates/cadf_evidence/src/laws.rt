@@ -1,7 +1,7 @@
 //! Laws over the definitions alone. Each function's contract is a theorem, and its body is empty.
 ghost use Rattle.std.specs.Prelude.{◌≡◌, ◌≤◌, ℕ, length, false, Ok};
+ghost use Rattle.cadf_evidence.specs.Made.{FactsProofIsTold, GrowthProofIsTold};
 ghost use Rattle.cadf_evidence.specs.ProofFile.{IsProof, ProofFileIsInjective, proof_file};
-ghost use Rattle.cadf_evidence.specs.ProofMade.{MadeProofIsAccepted};
 ghost use Rattle.cadf_evidence.specs.ProofVerdict.{proof_verdict};
 ghost use Rattle.cadf_evidence.specs.SealFile.{IsSeal, SealFileIsInjective, seal_file};
 ghost use Rattle.cadf_evidence.specs.SealVerdict.{seal_verdict};
@@ -9,7 +9,7 @@ ghost use Rattle.cadf_evidence.specs.Soundness.{FactsAreSo, GrowthIsSo, EqualSea
 
 use crate::proof::Proof;
 use crate::seal::Seal;
-use cadf_tree::{growth_is_sound, presence_is_complete, presence_is_sound};
+use cadf_tree::{growth_is_complete, growth_is_sound, presence_is_complete, presence_is_sound};
 
 /// States that a seal's file is injective: seals with equal files are equal.
 pub fn seal_file_is_injective()
@@ -37,13 +37,6 @@ pub fn proof_is_read_back(proof: &Proof)
     proof.type_invariant();
 }
 
-/// States that the proof that is made for facts which are all in a set, or of which none is, is accepted under the set's seal.
-pub fn made_proof_is_accepted()
-    ensures { MadeProofIsAccepted }
-{
-    presence_is_complete();
-}
-
 /// States that of facts that are told, each is in the sealed set or not, as was asked, if what is hashed doesn't collide.
 pub fn told_facts_are_so()
     ensures { FactsAreSo }
@@ -64,4 +57,14 @@ pub fn equal_seals_are_of_one_set()
     ensures { EqualSealsAreOfOneSet }
 {
     growth_is_sound();
+}
+
+/// States that the proof that is made for facts of which all are in the set, or none, is accepted under the set's seal and
+/// tells so; and that the one that is made of two sets is accepted under both seals, if what went is listed.
+pub fn made_proofs_are_told()
+    ensures facts { FactsProofIsTold }
+    ensures growth { GrowthProofIsTold }
+{
+    presence_is_complete();
+    growth_is_complete();
 }

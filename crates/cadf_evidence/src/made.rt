@@ -1,6 +1,6 @@
 //! The proof that is made of which facts are in a set.
 ghost use Rattle.std.specs.Prelude.{◌≡◌, IfOk};
-ghost use Rattle.cadf_evidence.specs.ProofMade.{proof_of};
+ghost use Rattle.cadf_evidence.specs.Made.{proof_of};
 
 use crate::proof::{Parts, Proof};
 use crate::seal::digests_of;

@@ -5,7 +5,7 @@ use Rattle.std.specs.Prelude.{List, None, Result, Ok}
 use Rattle.cadf_set.specs.Inventory.{inventory_of}
 use Rattle.cadf_set.specs.Replica.{ReplicaModel}
 use Rattle.cadf_evidence.specs.ProofFile.{ProofModel}
-use Rattle.cadf_evidence.specs.ProofMade.{proof_of}
+use Rattle.cadf_evidence.specs.Made.{proof_of}
 use Rattle.cadf_tool.specs.declared.input.Loaded.{Loaded}
 use Rattle.cadf_tool.specs.declared.fault.ToolFault.{ToolFault}
 use Rattle.cadf_tool.specs.Join.{join_from, facts_under, on_ok}

@@ -1,5 +1,5 @@
 use Rattle.cadf_evidence.proofs.Common.{◌≡◌, ◌∙◌, sym, subst, arith, common_steps, rising, AreRising, presence_parts, AreParts}
-use Rattle.cadf_evidence.proofs.MadeProofs.{presence_form, asked_rise}
+use Rattle.cadf_evidence.proofs.ProofForm.{presence_form, asked_rise}
 use Rattle.cadf_evidence.proofs.SetsOfDigests.{digests_are_set}
 use Rattle.cadf_evidence.proofs.proof.Proof.of.Goals as goal
 

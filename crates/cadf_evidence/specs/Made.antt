@@ -1,0 +1,54 @@
+-- The proofs that are made, and that they are accepted.
+--     proof_of f n             the proof, under the log of the inventory n, of which of the digests of f it has
+--     growth_proof old new     the proof of how the set new came of the set old
+--     AllGoneAreListed l ps    the list has each digest that is gone by the parts
+--     FactsProofIsTold         if all facts are in the set, or none is, then the proof that is made says so
+--     GrowthProofIsTold        if what went is listed, then the proof that is made says how many facts were added
+use Rattle.std.specs.Prelude.{◌≡◌, List, length, Bool, true, not, Option, None, Some, Ok}
+use Rattle.std.specs.List.{AllByRecursion}
+use Rattle.cadf_join.specs.Contents.{Texts, Contents, Has}
+use Rattle.cadf_join.specs.Sets as set
+use Rattle.cadf_join.specs.Sets.{rising}
+use Rattle.cadf_line.specs.Digest.{atom_digest}
+use Rattle.cadf_line.specs.Missing.{Digests}
+use Rattle.cadf_set.specs.Inventory.{InventoryModel, inventory_of}
+use Rattle.cadf_set.specs.Replica.{ReplicaModel}
+use Rattle.cadf_tree.specs.GrowthMade.{growth_parts}
+use Rattle.cadf_tree.specs.PresenceMade.{presence_parts}
+use Rattle.cadf_tree.specs.Pruned.{leaves_of}
+use Rattle.cadf_tree.specs.declared.parts.Kind.TheVariants.{Added, Gone}
+use Rattle.cadf_tree.specs.declared.parts.Part.{Part}
+use Rattle.cadf_evidence.specs.Growth.{grown, growth_text, is_listed}
+use Rattle.cadf_evidence.specs.ProofFile.{ProofModel}
+use Rattle.cadf_evidence.specs.SealFile.{seal_of}
+use Rattle.cadf_evidence.specs.Soundness.{fact_digests, key_digests}
+use Rattle.cadf_evidence.specs.Told.{told}
+use Rattle.cadf_evidence.specs.Verified.{verified}
+
+abbrev pub proof_of : InventoryModel → InventoryModel → ProofModel
+proof_of f n = record { log = n.log; facts = presence_parts (rising n.digests) (rising f.digests); keys = None }
+
+abbrev pub facts_growth : ReplicaModel → ReplicaModel → List Part
+facts_growth old new = growth_parts (fact_digests old.atoms) (fact_digests new.atoms)
+
+abbrev pub keys_growth_parts : ReplicaModel → ReplicaModel → List Part
+keys_growth_parts old new = growth_parts (key_digests old.atoms) (key_digests new.atoms)
+
+abbrev pub growth_proof : ReplicaModel → ReplicaModel → ProofModel
+growth_proof old new = record { log = new.log; facts = facts_growth old new; keys = Some (keys_growth_parts old new) }
+
+-- ---- laws
+
+abbrev pub FactsProofIsTold : Type 0
+FactsProofIsTold = (held facts : ReplicaModel) (absent : Bool)
+    → ((q : Texts) → Has facts.atoms q → set.contains (inventory_of held).digests (atom_digest q) ≡ not absent)
+    → verified (seal_of held) (proof_of (inventory_of facts) (inventory_of held)) facts.atoms absent ≡ Ok (told absent (rising facts.atoms))
+
+abbrev pub AllGoneAreListed : Option Digests → List Part → Type 0
+AllGoneAreListed list ps = AllByRecursion (λ d. is_listed list d ≡ true) (leaves_of Gone ps)
+
+abbrev pub GrowthProofIsTold : Type 0
+GrowthProofIsTold = (old new : ReplicaModel) (list : Option Digests) → old.log ≡ new.log → AllGoneAreListed list (facts_growth old new)
+    → AllGoneAreListed list (keys_growth_parts old new)
+    → grown (seal_of old) (seal_of new) (growth_proof old new) list
+    ≡ Ok (growth_text list (record { added = length (leaves_of Added (facts_growth old new)); gone = length (leaves_of Gone (facts_growth old new)) }))
