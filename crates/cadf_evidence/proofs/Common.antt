@@ -15,7 +15,7 @@ pub use Rattle.cadf_evidence.specs.SealLines.{IsPut}
 pub use Rattle.cadf_evidence.specs.SealVerdict.{seal_kind, seal_model_in}
 pub use Rattle.cadf_evidence.specs.Soundness.{EqualSealsAreOfOneSet, FactsAreSo, GrowthIsSo, fact_digests, given_parts, key_digests, unchanged_parts}
 pub use Rattle.cadf_evidence.specs.Told.{alike_text, digest_text, told, told_text}
-pub use Rattle.cadf_evidence.specs.Verified.{fact_fault, first_fault, text_unless, tree_refusal}
+pub use Rattle.cadf_evidence.specs.Verified.{VerifyFaultIs, fact_fault, first_fault, keys_fault, text_unless, tree_refusal, verified}
 pub use Rattle.cadf_evidence.specs.declared.growth.GrowthFault.{GrowthFault}
 pub use Rattle.cadf_evidence.specs.declared.growth.SealedSet.{SealedSet}
 pub use Rattle.cadf_evidence.specs.declared.growth.SealedSet.TheVariants.{Facts, Keys}
@@ -23,6 +23,7 @@ pub use Rattle.cadf_evidence.specs.declared.seal_lines.Told.{Told}
 pub use Rattle.cadf_evidence.specs.declared.seal_lines.Told.TheVariants.{Count, KeyCount, Nothing, Whole}
 pub use Rattle.cadf_evidence.specs.declared.telling.Alike.{Alike}
 pub use Rattle.cadf_evidence.specs.declared.verify.VerifyFault.{VerifyFault}
+pub use Rattle.cadf_evidence.specs.declared.verify.VerifyFault.TheVariants.{Absent, Memory, NotShown, Present, Proof}
 pub use Rattle.cadf_inventory.proofs.DigestLines.{digest-again, digest-only, sha_digest, unbroken_digest_of}
 pub use Rattle.cadf_inventory.proofs.InventoryVerdictLemmas.{each_digest}
 pub use Rattle.cadf_inventory.proofs.RisingLists.{rising_set, set_again}
@@ -52,11 +53,11 @@ pub use Rattle.cadf_linefile.specs.Verdict.{begins_digest, log_line, with_digest
 pub use Rattle.cadf_linefile.specs.declared.fault.Cause.TheVariants.{Shape}
 pub use Rattle.cadf_linefile.specs.laws.Prefixes.{front_after, front_more}
 pub use Rattle.cadf_set.specs.Inventory.{AreDigests, InventoryModel}
-pub use Rattle.cadf_tree.specs.Grown.{all_needed, are_equal, fault_unless, growth_unless, hidden_leaves, is_text, order_fault, tree_fault, verdict}
+pub use Rattle.cadf_tree.specs.Grown.{all_needed, are_equal, fault_unless, growth_unless, hidden_leaves, is_hash, is_text, order_fault, tree_fault, verdict}
 pub use Rattle.cadf_tree.specs.GrowthLaws.{AreRising, BothAreHonest, DoNotCollide, HasHash, HaveHashes, IsDifference, IsHashedForBoth, Marked, is_added, is_gone, those}
 pub use Rattle.cadf_tree.specs.GrowthMade.{GrowthIsComplete}
 pub use Rattle.cadf_tree.specs.Made.{Kinds, any_shown, first_kind, made_leaf, made_parts, preorder, size}
-pub use Rattle.cadf_tree.specs.Presence.{PresenceIsSound, member, shown, state}
+pub use Rattle.cadf_tree.specs.Presence.{PresenceIsSound, all_asked, first_part, member, needs, shown, state}
 pub use Rattle.cadf_tree.specs.PresenceMade.{PresenceIsComplete, asked_kinds, first_digest, is_between, kind_if, presence_parts}
 pub use Rattle.cadf_tree.specs.Pruned.{Fork, Hidden, is_earlier, is_later, items, leaves_of, number}
 pub use Rattle.cadf_tree.specs.Tree.{Branch, IsSet, Tip, Tree, all_leaves, hash, leaf_text, leaves, node_text, root, root_hash, root_text, tree_hash, tree_of}
@@ -70,7 +71,7 @@ pub use Rattle.cadf_tree.specs.declared.parts.Part.TheVariants.{Hash, Leaf, Node
 pub use Rattle.cadf_tree.specs.declared.tree.Root.{Root}
 pub use Rattle.hex.specs.Hex.{encode_lower}
 pub use Rattle.sha2.proofs.Facts256.{length-sha256}
-pub use Rattle.std.proofs.Common.{Bool, Err, List, None, Ok, Option, Result, Some, [], ap, append-nil, append_assoc, arith, cond, drop, false, flat_map, get_or, if◌then◌else◌, inl, inr, length, map, not, refl, rules, subst, sym, take, true, true≢false, ℕ, ◌++◌, ◌+◌, ◌<◌, ◌^◌, ◌∙◌, ◌∷◌, ◌≡◌, ◌≤◌}
+pub use Rattle.std.proofs.Common.{Bool, Err, List, None, Ok, Option, Result, Some, [], ap, append-nil, append_assoc, arith, cond, drop, false, flat_map, get_or, if◌then◌else◌, inl, inr, length, map, not, refl, rules, subst, sym, take, true, true≢false, ℕ, ◌&&◌, ◌++◌, ◌+◌, ◌<◌, ◌^◌, ◌∙◌, ◌∷◌, ◌≡◌, ◌≤◌}
 pub use Rattle.std.proofs.KnownBytes.{Appends-trans}
 pub use Rattle.std.proofs.Math.Seq.{drop-append_seam, take-append_seam}
 pub use Rattle.std.proofs.lemmas.Bool.{eq-eqb, false_from_ne_true, le-leb, le-ltb}
@@ -83,5 +84,5 @@ pub use Rattle.std.specs.Io.KnownBytes.{Appends}
 pub use Rattle.std.specs.List.{AllByRecursion, list_any}
 pub use Rattle.std.specs.Option.{option_or}
 pub use Rattle.std.specs.Ordering.{is_lt, nat_cmp}
-pub use Rattle.std.specs.Prelude.{IfErr, codes, decimal, is_some, nat_eq, option_and_then, option_map, unwrap_or, ◌&&◌, ◌||◌, ◌⊎◌}
+pub use Rattle.std.specs.Prelude.{IfErr, codes, decimal, is_some, nat_eq, option_and_then, option_map, unwrap_or, ◌||◌, ◌⊎◌}
 pub use Rattle.std.specs.Str.{bytes_eq}

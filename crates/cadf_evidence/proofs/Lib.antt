@@ -1,4 +1,5 @@
 mod AlikeLines
+mod AskedDigests
 mod EqualSeals
 mod GrownSets
 mod MadeProofs

@@ -1,10 +1,13 @@
 //! What a proof says of facts to a reader with a seal.
-ghost use Rattle.std.specs.Prelude.{◌≡◌, Ok, IfOk, IfErr, None};
-ghost use Rattle.cadf_evidence.specs.Verified.{fact_fault, first_fault, refusal, verified, VerifyFaultIs};
+ghost use Rattle.std.specs.Prelude.{◌≡◌, Ok, IfOk, IfErr};
+ghost use Rattle.std.specs.Option.{option_or};
+ghost use Rattle.cadf_tree.specs.Presence.{shown};
+ghost use Rattle.cadf_evidence.specs.Soundness.{fact_digests};
+ghost use Rattle.cadf_evidence.specs.Verified.{fact_fault, first_fault, keys_fault, tree_refusal, verified, VerifyFaultIs};
 
 use crate::fault::{ProofFault, proof_fault};
 use crate::proof::Proof;
-use crate::seal::Seal;
+use crate::seal::{Seal, digests_of};
 use crate::telling::{FactLines, told};
 use cadf_json::Memory;
 use cadf_set::Replica;
@@ -68,17 +71,32 @@ fn first_fault(absent: bool, parts: &[Part], digests: &[[u8; 32]]) -> Option<Ver
     None
 }
 
-/// Returns why the proof isn't one of these facts under the seal, or the first fact that isn't as asked.
-fn refusal(seal: &Seal, proof: &Proof, digests: &[[u8; 32]], absent: bool) -> Option<VerifyFault>
-    ensures { result ≡ refusal seal.now proof.now digests.now absent }
+/// Returns why the proof's parts don't show what these digests need, and no more, under the seal.
+fn tree_refusal(seal: &Seal, proof: &Proof, digests: &[[u8; 32]]) -> Option<VerifyFault>
+    ensures { result ≡ tree_refusal (shown seal.now.facts proof.now.facts digests.now) }
 {
-    if let Some(fault) = shown(seal.facts(), proof.facts(), digests) {
-        return Some(VerifyFault::Proof(proof_fault(fault)));
+    match shown(seal.facts(), proof.facts(), digests) {
+        Some(fault) => Some(VerifyFault::Proof(proof_fault(fault))),
+        None => None,
     }
+}
+
+/// Returns why the proof speaks of more than these facts, or the first fact that isn't as asked.
+fn facts_refusal(proof: &Proof, digests: &[[u8; 32]], absent: bool) -> Option<VerifyFault>
+    ensures { result ≡ option_or (keys_fault proof.now.keys) (first_fault absent proof.now.facts 1 digests.now) }
+{
     match proof.keys() {
         Some(_) => Some(VerifyFault::Proof(ProofFault::NotNeeded)),
         None => first_fault(absent, proof.facts(), digests),
     }
+}
+
+/// Lists the digests of the facts, ascending.
+fn rising_digests(alloc: Global, facts: &Replica) -> Result<Vec<[u8; 32]>, Memory>
+    ensures { IfOk result (λ digests. digests.items ≡ fact_digests facts.now.atoms) }
+{
+    let inventory = facts.inventory()?;
+    digests_of(alloc, &inventory)
 }
 
 /// Verifies, by a proof under the seal, that each of the facts is in the sealed set; with `absent`, that none is. Returns a
@@ -93,8 +111,12 @@ pub fn verified(
     ensures ok { IfOk result (λ lines. verified seal.now proof.now facts.now.atoms absent ≡ Ok lines) }
     ensures err { IfErr result (λ e. VerifyFaultIs e (verified seal.now proof.now facts.now.atoms absent)) }
 {
+    let asked = rising_digests(alloc, facts)?;
+    if let Some(fault) = tree_refusal(seal, proof, asked.as_slice()) {
+        return Err(fault);
+    }
     let digests = facts.digests()?;
-    if let Some(fault) = refusal(seal, proof, digests.as_slice(), absent) {
+    if let Some(fault) = facts_refusal(proof, digests.as_slice(), absent) {
         return Err(fault);
     }
     Ok(told(alloc, facts, absent)?)

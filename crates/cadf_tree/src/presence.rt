@@ -1,5 +1,5 @@
 //! Whether a digest is in a set, by the parts of its pruned tree.
-ghost use Rattle.std.specs.Prelude.{◌≡◌, None};
+ghost use Rattle.std.specs.Prelude.{◌≡◌, None, true};
 ghost use Rattle.std.specs.List.{list_any};
 ghost use Rattle.cadf_tree.specs.Pruned.{items};
 ghost use Rattle.cadf_tree.specs.Presence.{is_leaf, is_past, is_ahead, is_present, is_absent, state, needs, first_part, all_asked, shown};
@@ -103,10 +103,43 @@ fn needs(before: &Option<Part>, part: &Part, after: &Option<Part>, digest: &[u8;
     }
 }
 
-/// Returns whether some of the digests needs this leaf.
+/// Returns whether the digest at that place needs this leaf. False if there is none.
+fn is_needed_at(
+    before: &Option<Part>,
+    part: &Part,
+    after: &Option<Part>,
+    digests: &[[u8; 32]],
+    place: usize,
+) -> bool
+    ensures { result ≡ true → list_any (needs before.now part.now after.now) digests.now ≡ true }
+{
+    if place < digests.len() {
+        return needs(before, part, after, &digests[place]);
+    }
+    false
+}
+
+/// Returns the place that the part's digest has among digests that rise, or would have.
+fn place_of(part: &Part, digests: &[[u8; 32]]) -> usize {
+    match part {
+        Part::Leaf(_, leaf) => match digests.binary_search(leaf) {
+            Ok(place) => place,
+            Err(place) => place,
+        },
+        _ => 0,
+    }
+}
+
+/// Returns whether some of the digests needs this leaf. If they rise, one that does is found at once.
 fn is_needed(before: &Option<Part>, part: &Part, after: &Option<Part>, digests: &[[u8; 32]]) -> bool
     ensures { result ≡ list_any (needs before.now part.now after.now) digests.now }
 {
+    let place = place_of(part, digests);
+    if is_needed_at(before, part, after, digests, place)
+        || is_needed_at(before, part, after, digests, place.saturating_sub(1))
+    {
+        return true;
+    }
     for digest in digests {
         if needs(before, part, after, digest) {
             return true;
@@ -158,8 +191,8 @@ fn all_asked(parts: &[Part], digests: &[[u8; 32]]) -> bool
 }
 
 /// Judges whether the parts are a pruned tree of the set with this root that shows nothing but what the digests need. `state`
-/// then says of each of them whether it is in the set. Returns the first fault. The time grows with the shown leaves times
-/// the digests.
+/// then says of each of them whether it is in the set. Returns the first fault. If the digests rise, at most one leaf is
+/// compared with all of them.
 pub fn shown(root: &Root, parts: &[Part], digests: &[[u8; 32]]) -> Option<TreeFault>
     ensures { result ≡ shown root.now parts.now digests.now }
 {
