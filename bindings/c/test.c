@@ -83,16 +83,17 @@ static const struct cadf_bytes g = TEXT("g"), h = TEXT("h"), key = TEXT("name"),
 #define RULED_FILE FILE_OF("[3,1,\"\\\"a\\\"\"]\n[3,1,\"\\\"b\\\"\"]\n[1,0,\"U\"]\n[2,0,\"P\"]\n[3,0,\"name\"]\n" \
     "[4,1,\"ac8d8342bbb2362d13f0a559a3621bb407011368895164b628a54f7fc33fc43c\"]\n", \
     "756e3e679a3c75ae29cc52a65b9cbfa33d6273da569a5a1e5914ff4190bf58ce")
-#define B_INVENTORY "CADF-INVENTORY 1\nL \"g\"\n996bc98dddbb85f9086eaa19d3baa801145d5cee05855ba7b6536a33eeb07b11\n" \
+#define A_DIGEST "d887dfc183257ab7b6690a08aa6a376f17bb1a76c5ceefb71bc319bd3f703cf1"
+#define B_DIGEST "996bc98dddbb85f9086eaa19d3baa801145d5cee05855ba7b6536a33eeb07b11"
+#define B_INVENTORY "CADF-INVENTORY 1\nL \"g\"\n" B_DIGEST "\n" \
     "Z a50c88d1acddfe24de2cc6470468677d07207dc1b6d3e11fe4484f4c3585dda7\n"
-#define B_SEAL "CADF-SEAL 1\nL \"g\"\nN 1\nR 0219e6711fc48070eae5013c45fe272208a39a140b050cbad62bc9ae41505858\n" \
-    "Z 7f095e574edd8201ae6470f42794ba8193ddcd1a7e810ebba8dab62418fe7268\n"
+#define B_SEAL "CADF-SEAL 1\nL \"g\"\nN 1\nR 7caf5b525a72384c774aa38bd6f9fd71c859df24278720b6f81e21cb301616ba\n" \
+    "M 1\nS 33433a06464951cfd05ff3c988a54d354ecf889e7308e235530d65e6ad134bfc\n" \
+    "Z 7445d3b2e7412a76b3f8c83b18d32596faf7c4967a8afafbf016fb5fb3a880d6\n"
 
-#define B_PROOF "CADF-PROOF 1\nL \"g\"\nN 1\nP 0 996bc98dddbb85f9086eaa19d3baa801145d5cee05855ba7b6536a33eeb07b11\n" \
-    "Z e97cc53100d046c9035b96125d38078221c6be1cd476ce9df89e4d9b3a833843\n"
-#define BOTH_PROOF "CADF-PROOF 1\nL \"g\"\nN 2\nP 1 d887dfc183257ab7b6690a08aa6a376f17bb1a76c5ceefb71bc319bd3f703cf1\n" \
-    "H 0219e6711fc48070eae5013c45fe272208a39a140b050cbad62bc9ae41505858\n" \
-    "Z 779bc469c14a44469db2b8be65d7b436fbc691eda2da2b968f75e7589e7f117e\n"
+#define B_PROOF "CADF-PROOF 1\nL \"g\"\nP " B_DIGEST "\nZ 10331aa9c38a66c912bf33dc833182bc44a01f6fa4a81b49be7aff5e4df57a46\n"
+#define BOTH_PROOF "CADF-PROOF 1\nL \"g\"\nN\nH 0219e6711fc48070eae5013c45fe272208a39a140b050cbad62bc9ae41505858\n" \
+    "P " A_DIGEST "\nZ 303f972c2a96b3902be2cf671725933471bcb70246c95964a7ea9839a316451d\n"
 
 #define SKETCH_OF(layout, cells, digest) "CADF-SKETCH 1\nL \"g\"\nS " layout " a50c88d1acddfe24de2cc6470468677d07207dc1b6d3e11fe4484f4c3585dda7\n" \
     "C 1 1 0 0 1 1 0 0 1 0 1 1 0 1 0 1 1 1 1 0 0 1 0 0 1 1 0 0 0 1 1 0 1 " \
@@ -265,8 +266,8 @@ static const struct expected rows[] = {
     ROW(proves_cut, 1, "input 2: not JSON"),
     ROW(proves_nothing, 1, "no log named"),
     ROW(proves_no_facts, 1, "input 1: not JSON"),
-    ROW(verifies, 0, "present P \"name\"\n"),
-    ROW(verifies_absent, 0, "absent P \"name\"\n"),
+    ROW(verifies, 0, "present P \"name\" " B_DIGEST "\n"),
+    ROW(verifies_absent, 0, "absent P \"name\" " A_DIGEST "\n"),
     ROW(verifies_but_absent, 1, "fact 1: absent"),
     ROW(verifies_but_present, 1, "fact 1: present"),
     ROW(verifies_other_count, 1, "input 3: other count"),

@@ -73,12 +73,13 @@ class Calls(unittest.TestCase):
     def test_facts_are_shown(self):
         both = [A, B]
         seal, proof = cadf.seal(cadf.join(both)), cadf.prove(A, both)
-        self.assertTrue(proof.startswith(b'CADF-PROOF 1\nL "g"\nN 2\nP '))
+        self.assertTrue(proof.startswith(b'CADF-PROOF 1\nL "g"\nN\nH '))
         self.assertEqual(proof, cadf.prove(A, [cadf.join(both)]))
-        self.assertEqual(cadf.verify(seal, A, proof), b'present P "name"\n')
+        digest = cadf.inventory(A).split(b"\n")[2]
+        self.assertEqual(cadf.verify(seal, A, proof), b'present P "name" %s\n' % digest)
         self.assertEqual(self.refuses(1, "fact 1: present", cadf.verify, seal, A, proof, True).place, "fact 1")
         absent = cadf.prove(A, [B])
-        self.assertEqual(cadf.verify(cadf.seal(B), A, absent, absent=True), b'absent P "name"\n')
+        self.assertEqual(cadf.verify(cadf.seal(B), A, absent, absent=True), b'absent P "name" %s\n' % digest)
         self.refuses(1, "fact 1: absent", cadf.verify, cadf.seal(B), A, absent)
         self.refuses(1, "input 3: other count", cadf.verify, seal, A, absent)
         self.refuses(1, "input 1: other log", cadf.prove, '{"id":"h","events":[]}', both)
