@@ -100,15 +100,15 @@ int cadf_sketch(uint64_t cells, uint64_t salt, const struct cadf_bytes *input,
 /* The inventory file of the input. */
 int cadf_inventory(const struct cadf_bytes *input, uint8_t *output, size_t room, size_t *length);
 
-/* The seal file of the input: its log, the number of its facts, and one hash of all of them. */
+/* The seal file of the input: its log, the number and the root of its facts, and those of their keys. */
 int cadf_seal(const struct cadf_bytes *input, uint8_t *output, size_t room, size_t *length);
 
 /* The proof file, under the seal of all inputs, of which facts they have and which they don't. `facts` is input 1. */
 int cadf_prove(const struct cadf_bytes *facts, const struct cadf_bytes *inputs, size_t count,
                uint8_t *output, size_t room, size_t *length);
 
-/* A line for each fact, by a seal and a proof: that it is there; with `absent`, that it isn't. Refused unless all are so,
- * and if there is no fact. */
+/* A line for each fact, with its digest, by a seal and a proof: that it is there; with `absent`, that it isn't. Refused
+ * unless all are so, and if there is no fact. */
 int cadf_verify(bool absent, const struct cadf_bytes *seal, const struct cadf_bytes *facts, const struct cadf_bytes *proof,
                 uint8_t *output, size_t room, size_t *length);
 

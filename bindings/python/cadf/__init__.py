@@ -198,7 +198,7 @@ def inventory(value: Input) -> bytes:
 
 
 def seal(value: Input) -> bytes:
-    """Returns the seal file of an input: its log, how many facts it has, and one hash of all of them.
+    """Returns the seal file of an input: its log, the number and the root of its facts, and those of their keys.
 
     Refused: the input is refused. OutOfMemory.
     """
@@ -215,7 +215,7 @@ def prove(facts: Input, inputs: Iterable[Input]) -> bytes:
 
 
 def verify(seal: Input, facts: Input, proof: Input, absent: bool = False) -> bytes:
-    """Returns a line for each fact: by the proof it is among what was sealed; with `absent` it isn't.
+    """Returns a line for each fact, with its digest: by the proof it is among what was sealed; with `absent` it isn't.
 
     Refused: one of them is refused or of another log, there is no fact, a fact isn't as asked, or the proof doesn't show
     it, with its number in `place`. OutOfMemory.
