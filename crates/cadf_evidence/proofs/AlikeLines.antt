@@ -17,10 +17,6 @@ line_more ls a b head d e f g =
     ∙ sym (append_assoc (told_text ls) (alike_text head a.digests.items) (head ++ digest_text d))
     ∙ ap (λ t. t ++ (head ++ digest_text d)) ((λ i. told_text ls ++ alike_text (sym e i) a.digests.items) ∙ sym (text_and ls a))
 
-pub line_new : (ls : List Alike) (a : Alike) (head : List ℕ) (d : Text) → a.head.items ≡ head → a.digests.items ≡ d ∷ []
-    → told_text (ls ++ a ∷ []) ≡ told_text ls ++ (head ++ digest_text d)
-line_new ls a head d e f = text_and ls a ∙ ap (λ t. told_text ls ++ t) ((λ i. alike_text (e i) (f i)) ∙ append-nil _)
-
 -- ---- lines that are written
 
 -- all but what is left was written
