@@ -29,7 +29,7 @@ pub use Rattle.cadf_inventory.proofs.InventoryVerdictLemmas.{each_digest}
 pub use Rattle.cadf_inventory.proofs.RisingLists.{rising_set, set_again}
 pub use Rattle.cadf_inventory.specs.InventoryVerdict.{digest_of}
 pub use Rattle.cadf_join.proofs.Outcome.{on_ok_then}
-pub use Rattle.cadf_join.specs.Contents.{Contents, Has, IsWithin, Text, Texts}
+pub use Rattle.cadf_join.specs.Contents.{Contents, Has, IsWithin, Text, Texts, text_cmp}
 pub use Rattle.cadf_join.specs.Sets.{Listed, rising}
 pub use Rattle.cadf_join.specs.laws.Contents.{text_same, text_total, texts_same, texts_total}
 pub use Rattle.cadf_join.specs.laws.Rising.{listed-rising, rising-listed}
@@ -57,7 +57,7 @@ pub use Rattle.cadf_tree.specs.Grown.{all_needed, are_equal, fault_unless, growt
 pub use Rattle.cadf_tree.specs.GrowthLaws.{AreRising, BothAreHonest, DoNotCollide, HasHash, HaveHashes, IsDifference, IsHashedForBoth, Marked, is_added, is_gone, those}
 pub use Rattle.cadf_tree.specs.GrowthMade.{GrowthIsComplete}
 pub use Rattle.cadf_tree.specs.Made.{Kinds, any_shown, first_kind, made_leaf, made_parts, preorder, size}
-pub use Rattle.cadf_tree.specs.Presence.{PresenceIsSound, all_asked, first_part, member, needs, shown, state}
+pub use Rattle.cadf_tree.specs.Presence.{PresenceIsSound, all_asked, first_part, is_leaf, is_present, member, needs, shown, state}
 pub use Rattle.cadf_tree.specs.PresenceMade.{PresenceIsComplete, asked_kinds, first_digest, is_between, kind_if, presence_parts}
 pub use Rattle.cadf_tree.specs.Pruned.{Fork, Hidden, is_earlier, is_later, items, leaves_of, number}
 pub use Rattle.cadf_tree.specs.Tree.{Branch, IsSet, Tip, Tree, all_leaves, hash, leaf_text, leaves, node_text, root, root_hash, root_text, tree_hash, tree_of}
@@ -71,18 +71,19 @@ pub use Rattle.cadf_tree.specs.declared.parts.Part.TheVariants.{Hash, Leaf, Node
 pub use Rattle.cadf_tree.specs.declared.tree.Root.{Root}
 pub use Rattle.hex.specs.Hex.{encode_lower}
 pub use Rattle.sha2.proofs.Facts256.{length-sha256}
-pub use Rattle.std.proofs.Common.{Bool, Err, List, None, Ok, Option, Result, Some, [], ap, append-nil, append_assoc, arith, cond, drop, false, flat_map, get_or, if◌then◌else◌, inl, inr, length, map, not, refl, rules, subst, sym, take, true, true≢false, ℕ, ◌&&◌, ◌++◌, ◌+◌, ◌<◌, ◌^◌, ◌∙◌, ◌∷◌, ◌≡◌, ◌≤◌}
+pub use Rattle.std.proofs.Common.{Bool, Err, List, None, Ok, Option, Result, Some, [], ap, append-nil, append_assoc, arith, cond, drop, false, flat_map, get_or, if◌then◌else◌, inl, inr, length, map, not, refl, rules, subst, sym, take, true, true≢false, ℕ, ◌++◌, ◌+◌, ◌<◌, ◌^◌, ◌∙◌, ◌∷◌, ◌≡◌, ◌≤◌}
 pub use Rattle.std.proofs.KnownBytes.{Appends-trans}
 pub use Rattle.std.proofs.Math.Seq.{drop-append_seam, take-append_seam}
 pub use Rattle.std.proofs.lemmas.Bool.{eq-eqb, false_from_ne_true, le-leb, le-ltb}
+pub use Rattle.std.proofs.lemmas.Cmp.{eq_by_cmp_equiv}
 pub use Rattle.std.proofs.lemmas.Grind.{common_steps, flat_map-append}
 pub use Rattle.std.proofs.lemmas.List.{drop_more, take-append-drop}
 pub use Rattle.std.proofs.lemmas.Result.{err_from_is_err_and, on_err_weaker}
 pub use Rattle.std.proofs.lemmas.Slice.Eq.{bytes_eq-Decides}
-pub use Rattle.std.specs.Cmp.Lexicographic.{slice_cmp}
+pub use Rattle.std.specs.Cmp.Lexicographic.{slice_cmp, texts_ties}
 pub use Rattle.std.specs.Io.KnownBytes.{Appends}
 pub use Rattle.std.specs.List.{AllByRecursion, list_any}
 pub use Rattle.std.specs.Option.{option_or}
-pub use Rattle.std.specs.Ordering.{is_lt, nat_cmp}
-pub use Rattle.std.specs.Prelude.{IfErr, codes, decimal, is_some, nat_eq, option_and_then, option_map, unwrap_or, ◌||◌, ◌⊎◌}
+pub use Rattle.std.specs.Ordering.{eq_by_cmp, is_lt, nat_cmp}
+pub use Rattle.std.specs.Prelude.{IfErr, codes, decimal, is_some, nat_eq, option_and_then, option_map, unwrap_or, ◌&&◌, ◌||◌, ◌⊎◌}
 pub use Rattle.std.specs.Str.{bytes_eq}

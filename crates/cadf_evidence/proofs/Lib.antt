@@ -2,6 +2,7 @@ mod AlikeLines
 mod AskedDigests
 mod EqualSeals
 mod GrownSets
+mod LeafSets
 mod MadeProofs
 mod MarkedLemmas
 mod ProofForm

@@ -8,6 +8,7 @@ pub mod ProofVerdict
 pub mod SealFile
 pub mod SealLines
 pub mod SealVerdict
+pub mod ShownParts
 pub mod Soundness
 pub mod Told
 pub mod Verified

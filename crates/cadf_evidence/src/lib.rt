@@ -10,6 +10,7 @@ mod proof;
 mod proof_lines;
 mod seal;
 mod seal_lines;
+mod shown_parts;
 mod telling;
 mod verify;
 

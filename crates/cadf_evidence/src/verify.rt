@@ -2,16 +2,18 @@
 ghost use Rattle.std.specs.Prelude.{◌≡◌, Ok, IfOk, IfErr};
 ghost use Rattle.std.specs.Option.{option_or};
 ghost use Rattle.cadf_tree.specs.Presence.{shown};
+ghost use Rattle.cadf_evidence.specs.ShownParts.{AreLeaves};
 ghost use Rattle.cadf_evidence.specs.Soundness.{fact_digests};
 ghost use Rattle.cadf_evidence.specs.Verified.{fact_fault, first_fault, keys_fault, tree_refusal, verified, VerifyFaultIs};
 
 use crate::fault::{ProofFault, proof_fault};
 use crate::proof::Proof;
 use crate::seal::{Seal, digests_of};
+use crate::shown_parts::{leaves_of, state_of};
 use crate::telling::{FactLines, told};
 use cadf_json::Memory;
-use cadf_set::Replica;
-use cadf_tree::{Part, shown, state};
+use cadf_set::{Inventory, Replica};
+use cadf_tree::{Part, shown};
 use std::alloc::Global;
 use thiserror::Error;
 
@@ -59,11 +61,17 @@ fn fact_fault(absent: bool, number: u64, state: Option<bool>) -> Option<VerifyFa
 }
 
 /// Returns the fault of the first of these digests of facts that isn't as asked, counted from 1.
-fn first_fault(absent: bool, parts: &[Part], digests: &[[u8; 32]]) -> Option<VerifyFault>
+fn first_fault(
+    absent: bool,
+    leaves: &Inventory,
+    parts: &[Part],
+    digests: &[[u8; 32]],
+) -> Option<VerifyFault>
+    requires { AreLeaves leaves.now.digests parts.now }
     ensures { result ≡ first_fault absent parts.now 1 digests.now }
 {
     for index in 0..digests.len() {
-        let state = state(parts, &digests[index]);
+        let state = state_of(leaves, parts, &digests[index]);
         if let Some(fault) = fact_fault(absent, index as u64 + 1, state) {
             return Some(fault);
         }
@@ -81,14 +89,21 @@ fn tree_refusal(seal: &Seal, proof: &Proof, digests: &[[u8; 32]]) -> Option<Veri
     }
 }
 
-/// Returns why the proof speaks of more than these facts, or the first fact that isn't as asked.
-fn facts_refusal(proof: &Proof, digests: &[[u8; 32]], absent: bool) -> Option<VerifyFault>
-    ensures { result ≡ option_or (keys_fault proof.now.keys) (first_fault absent proof.now.facts 1 digests.now) }
+/// Returns why the proof speaks of more than these facts, or the first fact that isn't as asked. `Memory` if an allocation
+/// fails.
+fn facts_refusal(
+    alloc: Global,
+    proof: &Proof,
+    digests: &[[u8; 32]],
+    absent: bool,
+) -> Result<Option<VerifyFault>, Memory>
+    ensures { IfOk result (λ fault. fault ≡ option_or (keys_fault proof.now.keys) (first_fault absent proof.now.facts 1 digests.now)) }
 {
-    match proof.keys() {
-        Some(_) => Some(VerifyFault::Proof(ProofFault::NotNeeded)),
-        None => first_fault(absent, proof.facts(), digests),
+    if proof.keys().is_some() {
+        return Ok(Some(VerifyFault::Proof(ProofFault::NotNeeded)));
     }
+    let leaves = leaves_of(alloc, proof.log().copy(alloc)?, proof.facts())?;
+    Ok(first_fault(absent, &leaves, proof.facts(), digests))
 }
 
 /// Lists the digests of the facts, ascending.
@@ -116,7 +131,7 @@ pub fn verified(
         return Err(fault);
     }
     let digests = facts.digests()?;
-    if let Some(fault) = facts_refusal(proof, digests.as_slice(), absent) {
+    if let Some(fault) = facts_refusal(alloc, proof, digests.as_slice(), absent)? {
         return Err(fault);
     }
     Ok(told(alloc, facts, absent)?)

@@ -7,11 +7,11 @@ returns-in-Some-clause-err c =
     let tree : tree_refusal (shown c.args.seal.now.facts c.args.proof.now.facts (fact_digests c.args.facts.now.atoms)) ≡ Some c.in-Some.fault = grind (arith, common_steps) in
     tree_refused c.args.seal.now c.args.proof.now c.args.facts.now.atoms c.args.absent c.in-Some.fault tree
 
-pub returns-in-Some-facts_refusal-clause-err : goal.returns-in-Some-facts_refusal-clause-err
-returns-in-Some-facts_refusal-clause-err c =
+pub returns-in-Some-2-clause-err : goal.returns-in-Some-2-clause-err
+returns-in-Some-2-clause-err c =
     let tree : tree_refusal (shown c.args.seal.now.facts c.args.proof.now.facts (fact_digests c.args.facts.now.atoms)) ≡ None = grind (arith, common_steps) in
-    let each : of_facts c.args.seal.now c.args.proof.now c.args.facts.now.atoms c.args.absent ≡ Some c.in-Some-facts_refusal.fault = grind (arith, common_steps) in
-    facts_refused c.args.seal.now c.args.proof.now c.args.facts.now.atoms c.args.absent c.in-Some-facts_refusal.fault tree each
+    let each : of_facts c.args.seal.now c.args.proof.now c.args.facts.now.atoms c.args.absent ≡ Some c.in-Some-2.fault = grind (arith, common_steps) in
+    facts_refused c.args.seal.now c.args.proof.now c.args.facts.now.atoms c.args.absent c.in-Some-2.fault tree each
 
 pub returns-clause-ok : goal.returns-clause-ok
 returns-clause-ok c =
