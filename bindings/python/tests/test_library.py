@@ -1,5 +1,6 @@
 """Calls of the library itself, which CADF_LIBRARY names or which is found; left out where there is none."""
 import doctest
+import hashlib
 import os
 import sys
 import threading
@@ -66,16 +67,19 @@ class Calls(unittest.TestCase):
     def test_one_set_has_one_seal(self):
         seal = cadf.seal(cadf.join([A, B]))
         self.assertEqual(seal, cadf.seal(cadf.join([B, A, B])))
-        self.assertTrue(seal.startswith(b'CADF-SEAL 1\nL "g"\nN 2\nR '))
+        lines = [line.split() for line in seal.splitlines()]
+        self.assertEqual([line[0] for line in lines], [b"CADF-SEAL", b"L", b"N", b"R", b"M", b"S", b"Z"])
+        self.assertEqual((lines[2][1], lines[4][1]), (b"2", b"1"))  # two facts of one key
         self.assertNotEqual(seal, cadf.seal(A))
         self.refuses(1, "input 1: version", cadf.seal, seal)
 
     def test_facts_are_shown(self):
         both = [A, B]
         seal, proof = cadf.seal(cadf.join(both)), cadf.prove(A, both)
-        self.assertTrue(proof.startswith(b'CADF-PROOF 1\nL "g"\nN\nH '))
+        digest, other = (hashlib.sha256(b'["P","name","\\"%s\\""]' % name) for name in (b"a", b"b"))
+        hidden, digest = hashlib.sha256(b"\0" + other.digest()).hexdigest().encode(), digest.hexdigest().encode()
+        self.assertTrue(proof.startswith(b'CADF-PROOF 1\nL "g"\nN\nH %s\nP %s\nZ ' % (hidden, digest)))
         self.assertEqual(proof, cadf.prove(A, [cadf.join(both)]))
-        digest = cadf.inventory(A).split(b"\n")[2]
         self.assertEqual(cadf.verify(seal, A, proof), b'present P "name" %s\n' % digest)
         self.assertEqual(self.refuses(1, "fact 1: present", cadf.verify, seal, A, proof, True).place, "fact 1")
         absent = cadf.prove(A, [B])
