@@ -9,6 +9,9 @@ import time
 
 from tests import TOP
 
+# A command that waits as long as a FIFO is there and open. It may change no file, so it can do nothing else meanwhile.
+WAITING = '#!/bin/sh\n[ -p "$FIFO" ] && read told <"$FIFO"\nexec "$BUILT" "$@"\n'
+
 
 def tool(name):
     return os.path.join(TOP, "tools", name)

@@ -79,8 +79,9 @@ def test_damage_is_named_each_night(scrubs):
     seen = set()
     for night in range(2, 8):
         status, output, lines = scrubs.scrub(night, "--share", "1/6", "--metrics", "m.prom")
-        seen |= scrubs.read() - {DAYS[0]}
-        is_found = night > 2 or DAYS[0] in scrubs.read()
+        read = scrubs.read()
+        seen |= read - {DAYS[0]}
+        is_found = night > 2 or DAYS[0] in read
         assert (status, output, len(lines), scrubs.numbers()["damaged_windows"]) == (is_found, "", is_found, is_found), lines
         assert not is_found or lines[0].startswith("north/%s: digest: " % path.name)
     assert seen == set(DAYS[1:])

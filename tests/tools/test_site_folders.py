@@ -22,6 +22,7 @@ from tests.reference.replica_files import file_of, read_file
 from tests.reference.split_files import in_order, parts_of
 from tests.tools.copies import copied, is_caught
 from tests.tools.faulty import calls_of
+from tests.tools.programs import WAITING, writer_to
 
 TOOLS = os.path.join(TOP, "tools")
 CALLS = "os.open os.rename os.unlink os.fchmod os.fsync os.mkdir os.listdir fcntl.flock"
@@ -555,11 +556,18 @@ def test_a_take_that_fails_removes_nothing_that_it_has_not_made(site):
     """`site` gets lost meanwhile: the files of its windows are all that is left of it."""
     site.takes(contents(0, 1))
     before = site.listed()
-    losing = site.path / "losing"
-    losing.write_text('#!/bin/sh\nrm -f %s\nexec %s "$@"\n' % (shlex.quote(str(site.folder / "site")), shlex.quote(site.command)))
-    losing.chmod(0o755)
-    site.environment["CADF"] = str(losing)
-    assert site.take(files=[site.put(dict(contents(3), events=7))]).status == 1
+    waiting, fifo = site.path / "waiting", site.path / "fifo"
+    waiting.write_text(WAITING)
+    waiting.chmod(0o755)
+    os.mkfifo(fifo)
+    words = site.words(files=[site.put(dict(contents(3), events=7))])
+    with subprocess.Popen(words, stderr=subprocess.PIPE, env=dict(site.environment, CADF=str(waiting), BUILT=site.command, FIFO=str(fifo))) as child:
+        writer = writer_to(fifo, child)
+        fifo.unlink()
+        (site.folder / "site").unlink()
+        os.close(writer)
+        said = child.stderr.read()
+    assert child.returncode == 1, said
     before.pop("site")
     assert site.listed() == before
 

@@ -1753,7 +1753,7 @@ WRONG_OF_FOLDERS = [
     ("parts_in(unit, log, those)).keys() - {label}", "{}).keys() - own.keys()", test_two_windows_that_are_swapped),
     ("label in found and found[label] == last_digest(those[0].file):", "label in found:", test_two_windows_that_are_swapped),
     ("label in found and found[label] == last_digest(those[0].file):", "found.get(label) == last_digest(those[0].file):", test_two_windows_that_are_swapped),
-    ("        items = self.within_limit(items, peer)\n", "", test_a_caller_that_sends_more_windows_than_it_may),
+    ("self.welcome_in(self.within_limit(items, peer), peer)", "self.welcome_in(items, peer)", test_a_caller_that_sends_more_windows_than_it_may),
 ]
 
 

@@ -12,7 +12,7 @@ import pytest
 
 from tests import patience
 from tests.tools.odd_logs import EVENT
-from tests.tools.programs import tool, writer_to
+from tests.tools.programs import WAITING, tool, writer_to
 
 # A command that goes on once it may.
 SLOW = '#!/bin/sh\nwhile [ ! -e "$PLACE/go" ]; do sleep 0.05; done\nexec "$BUILT" "$@"\n'
@@ -107,10 +107,6 @@ def test_take_behind_a_link(cadf, tmp_path):
     done = subprocess.run([tool("cadf-take"), tmp_path / "site.cadf", document(tmp_path, "e1")], env={**os.environ, "CADF": cadf}, stderr=subprocess.PIPE)
     said = "cadf-take: %s: Too many levels of symbolic links\n" % (tmp_path / "site.cadf.lock")
     assert (done.returncode, done.stderr.decode()) == (3, said) and not (tmp_path / "site.cadf").exists()
-
-
-# A command that waits as long as a FIFO is there and open. It may change no file, so it can do nothing else meanwhile.
-WAITING = '#!/bin/sh\n[ -p "$FIFO" ] && read told <"$FIFO"\nexec "$BUILT" "$@"\n'
 
 
 @pytest.mark.parametrize("name", ["site/", "site.cadf"])
