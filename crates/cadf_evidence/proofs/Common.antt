@@ -13,6 +13,7 @@ unfoldable pub use Rattle.cadf_evidence.specs.ProofVerdict.{leaf_in, part_in, st
 pub use Rattle.cadf_evidence.specs.SealFile.{IsRoot, IsSeal, SealFileIsInjective, SealModel, digest_line, number_line, seal_body, seal_header, seal_of}
 pub use Rattle.cadf_evidence.specs.SealLines.{IsPut}
 pub use Rattle.cadf_evidence.specs.SealVerdict.{seal_kind, seal_model_in}
+pub use Rattle.cadf_evidence.specs.ShownParts.{any_gap}
 pub use Rattle.cadf_evidence.specs.Soundness.{EqualSealsAreOfOneSet, FactsAreSo, GrowthIsSo, fact_digests, given_parts, key_digests, unchanged_parts}
 pub use Rattle.cadf_evidence.specs.Told.{alike_text, digest_text, told, told_text}
 pub use Rattle.cadf_evidence.specs.Verified.{VerifyFaultIs, fact_fault, first_fault, keys_fault, text_unless, tree_refusal, verified}
@@ -57,7 +58,7 @@ pub use Rattle.cadf_tree.specs.Grown.{all_needed, are_equal, fault_unless, growt
 pub use Rattle.cadf_tree.specs.GrowthLaws.{AreRising, BothAreHonest, DoNotCollide, HasHash, HaveHashes, IsDifference, IsHashedForBoth, Marked, is_added, is_gone, those}
 pub use Rattle.cadf_tree.specs.GrowthMade.{GrowthIsComplete}
 pub use Rattle.cadf_tree.specs.Made.{Kinds, any_shown, first_kind, made_leaf, made_parts, preorder, size}
-pub use Rattle.cadf_tree.specs.Presence.{PresenceIsSound, all_asked, first_part, is_leaf, is_present, member, needs, shown, state}
+pub use Rattle.cadf_tree.specs.Presence.{PresenceIsSound, all_asked, first_part, is_absent, is_leaf, is_present, member, needs, shown, state}
 pub use Rattle.cadf_tree.specs.PresenceMade.{PresenceIsComplete, asked_kinds, first_digest, is_between, kind_if, presence_parts}
 pub use Rattle.cadf_tree.specs.Pruned.{Fork, Hidden, is_earlier, is_later, items, leaves_of, number}
 pub use Rattle.cadf_tree.specs.Tree.{Branch, IsSet, Tip, Tree, all_leaves, hash, leaf_text, leaves, node_text, root, root_hash, root_text, tree_hash, tree_of}

@@ -2,14 +2,14 @@
 ghost use Rattle.std.specs.Prelude.{◌≡◌, Ok, IfOk, IfErr};
 ghost use Rattle.std.specs.Option.{option_or};
 ghost use Rattle.cadf_tree.specs.Presence.{shown};
-ghost use Rattle.cadf_evidence.specs.ShownParts.{AreLeaves};
+ghost use Rattle.cadf_evidence.specs.ShownParts.{AreGaps, AreLeaves};
 ghost use Rattle.cadf_evidence.specs.Soundness.{fact_digests};
 ghost use Rattle.cadf_evidence.specs.Verified.{fact_fault, first_fault, keys_fault, tree_refusal, verified, VerifyFaultIs};
 
 use crate::fault::{ProofFault, proof_fault};
 use crate::proof::Proof;
 use crate::seal::{Seal, digests_of};
-use crate::shown_parts::{leaves_of, state_of};
+use crate::shown_parts::{Gap, gaps_of, leaves_of, state_of};
 use crate::telling::{FactLines, told};
 use cadf_json::Memory;
 use cadf_set::{Inventory, Replica};
@@ -64,14 +64,16 @@ fn fact_fault(absent: bool, number: u64, state: Option<bool>) -> Option<VerifyFa
 fn first_fault(
     absent: bool,
     leaves: &Inventory,
+    gaps: &[Gap],
     parts: &[Part],
     digests: &[[u8; 32]],
 ) -> Option<VerifyFault>
-    requires { AreLeaves leaves.now.digests parts.now }
+    requires leaves { AreLeaves leaves.now.digests parts.now }
+    requires gaps { AreGaps gaps.now parts.now }
     ensures { result ≡ first_fault absent parts.now 1 digests.now }
 {
     for index in 0..digests.len() {
-        let state = state_of(leaves, parts, &digests[index]);
+        let state = state_of(leaves, gaps, parts, &digests[index]);
         if let Some(fault) = fact_fault(absent, index as u64 + 1, state) {
             return Some(fault);
         }
@@ -103,7 +105,9 @@ fn facts_refusal(
         return Ok(Some(VerifyFault::Proof(ProofFault::NotNeeded)));
     }
     let leaves = leaves_of(alloc, proof.log().copy(alloc)?, proof.facts())?;
-    Ok(first_fault(absent, &leaves, proof.facts(), digests))
+    let gaps = gaps_of(alloc, proof.facts())?;
+    let fault = first_fault(absent, &leaves, gaps.as_slice(), proof.facts(), digests);
+    Ok(fault)
 }
 
 /// Lists the digests of the facts, ascending.

@@ -21,6 +21,6 @@ pub use laws::{
 };
 pub use listed::first_unlisted;
 pub use parts::{Kind, Part};
-pub use presence::{shown, state};
+pub use presence::{is_ahead, is_past, shown, state};
 pub use pruning::parts_of;
 pub use tree::{Root, root_of};

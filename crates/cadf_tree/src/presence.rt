@@ -20,7 +20,7 @@ fn is_leaf(part: &Part, digest: &[u8; 32]) -> bool
 }
 
 /// Returns whether the digest may be next to the part before it: a leaf that is less, or none.
-fn is_past(before: &Option<Part>, digest: &[u8; 32]) -> bool
+pub fn is_past(before: &Option<Part>, digest: &[u8; 32]) -> bool
     ensures { result ≡ is_past before.now digest.now }
 {
     match before {
@@ -31,7 +31,7 @@ fn is_past(before: &Option<Part>, digest: &[u8; 32]) -> bool
 }
 
 /// Returns whether the digest may be next to the part after it: a leaf that is greater, or none.
-fn is_ahead(after: &Option<Part>, digest: &[u8; 32]) -> bool
+pub fn is_ahead(after: &Option<Part>, digest: &[u8; 32]) -> bool
     ensures { result ≡ is_ahead after.now digest.now }
 {
     match after {
