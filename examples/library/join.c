@@ -19,11 +19,12 @@ int main(int count, char **words)
     if (count != 3)
         return CADF_ARGUMENT_REFUSED;
     struct cadf_bytes sites[2] = {contents(words[1]), contents(words[2])};
-    size_t room = 4096 + 2 * (sites[0].length + sites[1].length), length;
-    uint8_t *both = malloc(room);
+    size_t length;
+    int status = cadf_join(sites, 2, NULL, NULL, 0, &length); /* how much room */
+    uint8_t *both = malloc(length);
     if (!both)
         return CADF_OUT_OF_MEMORY;
-    int status = cadf_join(sites, 2, NULL, both, room, &length);
+    status = cadf_join(sites, 2, NULL, both, length, &length);
     fwrite(both, 1, length, status ? stderr : stdout); /* or why a file is refused */
     return status;
 }

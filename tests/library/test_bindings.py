@@ -2,6 +2,7 @@
 
 bindings/c/call.c and the package answer each call of examples/vectors, and of generated ones, as the command does.
 """
+import json
 import os
 import re
 import shutil
@@ -225,11 +226,15 @@ def test_example_of_events(examples, tmp_path):
             assert (done.status, done.output) == (0, b"".join(log_text("g", each) for each in windows))
 
 
-def test_example_of_two_sites(examples):
+def test_example_of_two_sites(examples, tmp_path):
+    """The file may be longer than twice the inputs, as that of many short properties."""
     names = [vector("both.cadf"), vector("north.json")]
     for each in (names, names[::-1]):
         assert ran(examples["join"], *each).encode() == read_vector("both.cadf")
     assert said(examples["join"], vector("both.cadf"), vector("cut.json")) == (1, "input 2: not JSON")
+    many = {"id": "g", "events": [], **{"%x" % number: 0 for number in range(5000)}}
+    put(tmp_path, "many", json.dumps(many, separators=(",", ":")).encode())
+    assert ran(examples["join"], str(tmp_path / "many"), vector("size-0.json")).encode() == file_of("g", document(many)[1])
 
 
 def read_vector(name):
