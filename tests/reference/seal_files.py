@@ -288,11 +288,9 @@ def verified(seal, facts, proof, wanted):
         states = states_of(facts, seal, proof)
     except Fault as fault:
         raise Fault("input 3: " + fault.said)
-    if None in states:
-        raise Fault("fact %d: not shown" % (1 + states.index(None)))
     for number, state in enumerate(states, 1):
         if state != wanted:
-            raise Fault("fact %d: %s" % (number, state))
+            raise Fault("fact %d: %s" % (number, state or "not shown"))
     return b"".join(line_of(wanted, fact) for fact in facts)
 
 

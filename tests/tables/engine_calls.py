@@ -207,6 +207,7 @@ fail_reads("missing-by", [made.EVENT_TREE, inventory(*sorted([digits(C1), digits
 
 # A command, its inputs, what is written, and what goes out at once, as a pattern: each write fails in turn.
 LINES, WHOLE, PARTS = ".*\n", "(?s).+", "CADF-SPLIT.*\n.*\n.*\n|CADF-REPLICA.*\n.*\n|.*\n"
+HEADS = "[0-9a-f]{64}\n|.* (?=[0-9a-f]{64}\n)"  # lines of which all but the digests may be alike
 WRITTEN = [
     ("show", [made.CHAINS_TREE], log(BOTH), WHOLE),
     ("show --conflicts", [EMPTY_LOG], conflicts(), WHOLE),
@@ -223,7 +224,7 @@ WRITTEN = [
     ("missing-by-sketch", [made.TWO, sketched.WORKED], made.SECOND_TREE, LINES),
     ("seal", [made.EVENT_TREE], seal(C1), LINES),
     ("prove", [V1, made.TWO], proof([digits(C1)], [digits(C1), digits(C2)]), LINES),
-    ("verify", [seal(C1, C2), made.TWO, proof([digits(C1), digits(C2)], [digits(C1), digits(C2)])], told_of("present", [C1, C2]), LINES),
+    ("verify", [seal(C1, C2), made.TWO, proof([digits(C1), digits(C2)], [digits(C1), digits(C2)])], told_of("present", [C1, C2]), HEADS),
     ("rule P name 2", [NAMED], made.SOUTH_TREE, LINES),
     ("rehearse g 2", [""], "site 0 atoms 0 as 0\nsite 1 atoms 0 as 0\n", WHOLE),
 ]
