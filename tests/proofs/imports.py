@@ -13,11 +13,12 @@ import functools
 import glob
 import os
 import re
+import shutil
+import subprocess
 import sys
 
 from tests import TOP
 
-KIT = "/opt/rattle/rattle"
 LIST = re.compile(r"^((?:unfoldable )?(?:pub )?)use ([^{}\s]+)\.\{(.*)\}$")
 
 
@@ -33,10 +34,17 @@ class Name(collections.namedtuple("Name", "module path shown")):
         return self.path if self.shown == self.path.rpartition(".")[2] else "%s as %s" % (self.path, self.shown)
 
 
+@functools.lru_cache(None)
+def kit():
+    """Returns the folder of the kit's libraries, beside the page that `rt` names; none without `rt`."""
+    page = subprocess.run(["rt", "doc"], stdout=subprocess.PIPE, check=True, text=True).stdout if shutil.which("rt") else ""
+    return os.path.join(os.path.dirname(page.strip()), "rattle")
+
+
 def file_of(module):
     """Returns the file of a module, or None if it is in none that can be read: the kit writes some itself."""
     library, *parts = module.split(".")
-    places = [os.path.join(TOP, "crates"), KIT] if library == "Rattle" else [os.path.join(KIT, "antt", "port", library, "src")]
+    places = [os.path.join(TOP, "crates"), kit()] if library == "Rattle" else [os.path.join(kit(), "antt", "port", library, "src")]
     stems = [os.path.join(place, *parts) for place in places]
     names = [name for stem in stems for name in (stem + ".antt", os.path.join(stem, "Lib.antt"))]
     return next(filter(os.path.isfile, names), None)
