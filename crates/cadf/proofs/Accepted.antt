@@ -1,5 +1,5 @@
 -- What the words of a command line ask can be asked of as many files as they name.
-use Rattle.cadf.proofs.Common.{◌≡◌, ℕ, true, List, [], ◌∷◌, length, Option, Some, None, Ok, Err, ok_or, IfOk, IsSomeAnd, refl, ap, arith, le-leb, lt-ltb, length-append, length-map, Row, is_place, is_site_count, unit_named, LogName, Sites, Key, Place, Cells, Salt, NoUnit, are_cells, is_salt, accepts, Asked, Request, Join, Split, Missing, MissingBy, Inventory, Sketch, MissingBySketch, Seal, Prove, Verify, Rule, Rehearse, Show, Check, IsAsked, MakesRequest, Reading, ◌>>=◌, IsAccepted, if_given, letter_of, name_of, number_of, texts}
+use Rattle.cadf.proofs.Common.{◌≡◌, ℕ, true, List, [], ◌∷◌, length, Option, Some, None, Ok, Err, ok_or, IfOk, IsSomeAnd, refl, ap, arith, le-leb, lt-ltb, length-append, length-map, Row, is_place, is_site_count, unit_named, LogName, Sites, Key, Place, Cells, Salt, NoUnit, are_cells, is_salt, accepts, Asked, Request, Join, Split, Missing, MissingBy, Inventory, Sketch, MissingBySketch, Seal, Prove, Verify, Sealed, Growth, Grew, Omit, Rule, Rehearse, Show, Check, IsAsked, MakesRequest, Reading, ◌>>=◌, IsAccepted, if_given, letter_of, name_of, number_of, texts}
 use Rattle.clap.specs.Walk.{Text}
 use Rattle.cadf_tool.specs.declared.request.Request.TheVariants as ask
 
@@ -31,6 +31,11 @@ accepted name rows (MissingBySketch from sketch) is = le-leb 1 _ (omega (arith, 
 accepted name rows (Seal files) is = refl
 accepted name rows (Prove facts files) is = le-leb 1 _ (omega arith)
 accepted name rows (Verify absent seal facts proof) is = refl
+accepted name rows (Sealed files) is = refl
+accepted name rows (Growth sealed files) is = le-leb 1 _ (omega arith)
+accepted name rows (Grew None old new proof) is = refl
+accepted name rows (Grew (Some list) old new proof) is = refl
+accepted name rows (Omit list files) is = le-leb 1 _ (omega arith)
 accepted name rows (Rule letter key place files) is = three (letter_of letter.now) (name_of Key key.now) (number_of Place is_place place.now) ask.Rule _ (λ _ _ _. refl)
 accepted name rows (Rehearse log sites script) is = two (name_of LogName log.now) (number_of Sites is_site_count sites.now) ask.Rehearse _ (λ _ _. refl)
 accepted name rows (Show conflicts files) is = refl

@@ -17,7 +17,7 @@ pub use Rattle.cadf_tool.specs.declared.fault.ToolFault.TheVariants.{Memory, Rea
 pub use Rattle.cadf_tool.specs.declared.request.Request.{Request as Asked}
 pub use Rattle.cadf_words.specs.Synopsis.{IsAsked, MakesRequest}
 pub use Rattle.cadf_words.specs.declared.request.Request.{Request}
-pub use Rattle.cadf_words.specs.declared.request.Request.TheVariants.{Check, Inventory, Join, Missing, MissingBy, MissingBySketch, Prove, Rehearse, Rule, Seal, Show, Sketch, Split, Verify}
+pub use Rattle.cadf_words.specs.declared.request.Request.TheVariants.{Check, Grew, Growth, Inventory, Join, Missing, MissingBy, MissingBySketch, Omit, Prove, Rehearse, Rule, Seal, Sealed, Show, Sketch, Split, Verify}
 pub use Rattle.clap.specs.Walk.{Row}
 pub use Rattle.std.proofs.Common.{Bool, Err, IfErr, IfOk, IsErrAnd, IsSomeAnd, List, MatchResult, None, Ok, Option, Result, Some, [], add-one, ap, append_assoc, arith, bytes_eq, drop, drop-cons, false, get_or, if◌then◌else◌, inr, is_ok, length, ltb, map, nat_le, nat_lt, ok_or, option_map, refl, rules, subst, suc, sym, take, take-suc, true, true≢false, zero, ℕ, ◌&&◌, ◌++◌, ◌+◌, ◌<◌, ◌∙◌, ◌∷◌, ◌≡◌, ◌≢◌, ◌≤◌}
 pub use Rattle.std.proofs.lemmas.Bool.{and_from, and_parts, le-leb, leb-true, lt-ltb, ltb-false, ltb-true}

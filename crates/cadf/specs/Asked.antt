@@ -4,7 +4,7 @@
 --     names_of q           the names of its files, in the order in which they are opened and read
 --     IsAccepted q         what q asks can be asked of so many files
 use Rattle.std.specs.Prelude.{◌≡◌, ◌⊎◌, ℕ, ◌^◌, nat_le, nat_lt, ◌&&◌, Bool, true, if◌then◌else◌, List, [], ◌∷◌, ◌++◌, map, length, slice_index, decimal}
-use Rattle.std.specs.Prelude.{Option, Some, None, ok_or, Result, Ok, Err, IfOk}
+use Rattle.std.specs.Prelude.{Option, Some, None, is_some, ok_or, Result, Ok, Err, IfOk}
 use Rattle.std.specs.Borrow.{Bor}
 use Rattle.std.specs.Str.{bytes_eq}
 use Rattle.std.specs.Str.Parse.{digits_value}
@@ -19,7 +19,7 @@ use Rattle.cadf_tool.specs.declared.request.Request.{Request as Asked}
 use Rattle.cadf_tool.specs.declared.request.Request.TheVariants as ask
 use Rattle.cadf_words.specs.declared.request.Request.{Request}
 use Rattle.cadf_words.specs.declared.request.Request.TheVariants.{Join, Split, Missing, MissingBy, Inventory, Sketch, MissingBySketch}
-use Rattle.cadf_words.specs.declared.request.Request.TheVariants.{Seal, Prove, Verify, Rule, Rehearse, Show, Check}
+use Rattle.cadf_words.specs.declared.request.Request.TheVariants.{Seal, Prove, Verify, Sealed, Growth, Grew, Omit, Rule, Rehearse, Show, Check}
 
 abbrev pub Word : Type 0
 Word = List ℕ
@@ -83,6 +83,10 @@ asked_by (MissingBySketch from sketch) = Ok ask.MissingBySketch
 asked_by (Seal files) = Ok ask.Seal
 asked_by (Prove facts files) = Ok ask.Prove
 asked_by (Verify absent seal facts proof) = Ok (ask.Verify absent)
+asked_by (Sealed files) = Ok ask.Sealed
+asked_by (Growth sealed files) = Ok ask.Growth
+asked_by (Grew erased old new proof) = Ok (ask.Grew (is_some erased))
+asked_by (Omit list files) = Ok ask.Omit
 asked_by (Rule letter key place files) = do
   c ← letter_of letter.now
   name ← name_of Key key.now
@@ -98,6 +102,11 @@ asked_by (Check files) = Ok ask.Check
 abbrev pub texts : List (Bor Word) → List Word
 texts = map (λ s. s.now)
 
+-- the name that is given, if one is
+abbrev pub text_given : Option (Bor Word) → List Word
+text_given None = []
+text_given (Some word) = word.now ∷ []
+
 abbrev pub names_of : Request → List Word
 names_of (Join log files) = texts files.items
 names_of (Split by log files) = texts files.items
@@ -109,6 +118,10 @@ names_of (MissingBySketch from sketch) = texts from.items ++ sketch.now ∷ []
 names_of (Seal files) = texts files.items
 names_of (Prove facts files) = facts.now ∷ texts files.items
 names_of (Verify absent seal facts proof) = seal.now ∷ facts.now ∷ proof.now ∷ []
+names_of (Sealed files) = texts files.items
+names_of (Growth sealed files) = sealed.now ∷ texts files.items
+names_of (Grew erased old new proof) = old.now ∷ new.now ∷ proof.now ∷ text_given erased
+names_of (Omit list files) = list.now ∷ texts files.items
 names_of (Rule letter key place files) = texts files.items
 names_of (Rehearse log sites script) = script.now ∷ []
 names_of (Show conflicts files) = texts files.items

@@ -37,6 +37,13 @@ pub(crate) fn asked_of(alloc: Global, request: &Request<'_>) -> Result<Asked, Ar
             let absent = *absent;
             Asked::Verify { absent }
         }
+        Request::Sealed { .. } => Asked::Sealed,
+        Request::Growth { .. } => Asked::Growth,
+        Request::Grew { erased, .. } => {
+            let erased = erased.is_some();
+            Asked::Grew { erased }
+        }
+        Request::Omit { .. } => Asked::Omit,
         Request::Rule {
             letter,
             key,
@@ -90,6 +97,21 @@ pub(crate) fn names_of<'a>(alloc: Global, request: &Request<'a>) -> Result<Vec<&
             proof,
             ..
         } => both(alloc, &[*seal, *facts, *proof], &[]),
+        Request::Sealed { files } => both(alloc, files, &[]),
+        Request::Growth { sealed, files } => both(alloc, &[*sealed], files),
+        Request::Grew {
+            erased: None,
+            old,
+            new,
+            proof,
+        } => both(alloc, &[*old, *new, *proof], &[]),
+        Request::Grew {
+            erased: Some(list),
+            old,
+            new,
+            proof,
+        } => both(alloc, &[*old, *new, *proof], &[*list]),
+        Request::Omit { list, files } => both(alloc, &[*list], files),
         Request::Rule { files, .. } => both(alloc, files, &[]),
         Request::Rehearse { script, .. } => both(alloc, &[*script], &[]),
         Request::Show { files, .. } => both(alloc, files, &[]),

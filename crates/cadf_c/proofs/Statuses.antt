@@ -1,5 +1,5 @@
 -- Which statuses faults have, and what is told with each.
-use Rattle.cadf_c.proofs.Common.{◌≡◌, ◌≤◌, ◌⊎◌, inl, inr, ℕ, List, length, true, true≢false, refl, sym, ap, ◌∙◌, subst, Result, Ok, Err, IfOk, IfErr, IsErrAnd, ℤ, pos, arith, ArgumentFault, LogName, Sites, Letter, Key, Place, Cells, Salt, NoUnit, NoMemory, argument_status_of, argument_text_of, ToolFault, Input, NoLog, OtherLog, NoFacts, TooFewCells, Script, Rehearse, NoValue, Unverified, ReadFault, WriteFault, Request, status_of, IsHandedOut, IsMadeFor, IsFirstFor, is_of_memory, IsAsked, IsRefused, IsCall}
+use Rattle.cadf_c.proofs.Common.{◌≡◌, ◌≤◌, ◌⊎◌, inl, inr, ℕ, List, length, true, true≢false, refl, sym, ap, ◌∙◌, subst, Result, Ok, Err, IfOk, IfErr, IsErrAnd, ℤ, pos, arith, ArgumentFault, LogName, Sites, Letter, Key, Place, Cells, Salt, NoUnit, NoMemory, argument_status_of, argument_text_of, ToolFault, Input, NoLog, OtherLog, NoFacts, TooFewCells, Script, Rehearse, NoValue, Unverified, Ungrown, ReadFault, WriteFault, Request, status_of, IsHandedOut, IsMadeFor, IsFirstFor, is_of_memory, IsAsked, IsRefused, IsCall}
 use Rattle.cadf_tool.specs.declared.fault.ToolFault.TheVariants.{Memory}
 
 -- where no read and no write fails
@@ -13,6 +13,7 @@ one_or_four (Script line) h = inl refl
 one_or_four (Rehearse f) h = inl refl
 one_or_four NoValue h = inl refl
 one_or_four (Unverified f) h = inl refl
+one_or_four (Ungrown f) h = inl refl
 one_or_four (ReadFault n) h = absurd (true≢false (sym h))
 one_or_four WriteFault h = absurd (true≢false (sym h))
 one_or_four Memory h = inr refl

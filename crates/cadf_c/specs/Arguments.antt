@@ -1,12 +1,13 @@
 -- What a C program's arguments ask for, or which of them is refused: the first in this order.
 --     log_given, number_given              what stands for none: no bytes, and 0
+--     is_given, if_given                   whether a list is given, and the inputs that it is
 --     join_asked log                       what is asked of `join`
 --     split_asked by log                   of `split`
 --     ruling_asked letter key place        of `rule`
 --     rehearsal_asked log sites            of `rehearse`
 --     sketch_asked cells salt              of `sketch`
 --     IsAsked asked given                  this is given, or there was no memory for it
-use Rattle.std.specs.Prelude.{◌≡◌, ◌⊎◌, ℕ, nat_eq, Bool, true, ◌&&◌, ◌||◌, if◌then◌else◌, List, [], ◌∷◌, Option, Some, None, Result, Ok, Err, encode_utf8}
+use Rattle.std.specs.Prelude.{◌≡◌, ◌⊎◌, ℕ, nat_eq, Bool, true, false, ◌&&◌, ◌||◌, if◌then◌else◌, List, [], ◌∷◌, Option, Some, None, Result, Ok, Err, encode_utf8}
 use Rattle.std.specs.Str.{is_utf8}
 use Rattle.cadf_event.specs.Names.{is_name}
 use Rattle.cadf_line.specs.RulingTexts.{is_value_letter}
@@ -26,6 +27,15 @@ log_given (b ∷ bs) = Some (b ∷ bs)
 -- 0 is no number of cells and no salt: a sketch has some cells, and its salt is odd
 abbrev pub number_given : ℕ → Option ℕ
 number_given n = if nat_eq n 0 then None else Some n
+
+-- no bytes are no list
+abbrev pub is_given : List ℕ → Bool
+is_given [] = false
+is_given (b ∷ bs) = true
+
+abbrev pub if_given : List ℕ → List (List ℕ)
+if_given [] = []
+if_given (b ∷ bs) = (b ∷ bs) ∷ []
 
 -- the bytes are UTF-8, and a name
 abbrev pub spells_name : List ℕ → Bool

@@ -1,11 +1,11 @@
 //! Requests over bytes in memory, for C. bindings/c/cadf.h declares them and says what each caller owes.
 #![tactic(auto)]
 
-ghost use Rattle.std.specs.Prelude.{[], ◌∷◌, Ok};
+ghost use Rattle.std.specs.Prelude.{[], ◌∷◌, false, true, Ok};
 ghost use Rattle.cadf_memory.specs.Memory.{bytes_in};
 ghost use Rattle.cadf_tool.specs.declared.request.Request.TheVariants as ask;
 ghost use Rattle.cadf_c.specs.Statuses.{IsCall};
-ghost use Rattle.cadf_c.specs.Arguments.{join_asked, split_asked, ruling_asked, rehearsal_asked, sketch_asked};
+ghost use Rattle.cadf_c.specs.Arguments.{is_given, if_given, join_asked, split_asked, ruling_asked, rehearsal_asked, sketch_asked};
 
 mod arguments;
 mod output;
@@ -122,6 +122,107 @@ pub extern "C" fn cadf_verify(
 {
     let inputs = [*seal, *facts, *proof];
     call(alloc, Request::Verify { absent }, &inputs, output, length)
+}
+
+/// Hands out the sealed list of the input.
+#[unsafe(no_mangle)]
+pub extern "C" fn cadf_sealed(
+    alloc: Global,
+    input: &CadfBytes<'_>,
+    output: &mut [u8],
+    length: &mut usize,
+) -> i32
+    ensures { IsCall (Ok ask.Sealed) (input.now.bytes.now ∷ []) result output.old output.new length.new }
+{
+    call(alloc, Request::Sealed, &[*input], output, length)
+}
+
+/// Hands out the proof of growth from what the sealed list has, which is counted first, to the union of all inputs.
+#[unsafe(no_mangle)]
+pub extern "C" fn cadf_growth(
+    alloc: Global,
+    sealed: &CadfBytes<'_>,
+    inputs: &[CadfBytes<'_>],
+    output: &mut [u8],
+    length: &mut usize,
+) -> i32
+    ensures { IsCall (Ok ask.Growth) (sealed.now.bytes.now ∷ bytes_in inputs.now) result output.old output.new length.new }
+{
+    match after(alloc, sealed, inputs) {
+        Ok(all) => call(alloc, Request::Growth, &all, output, length),
+        Err(_) => refuse(ArgumentFault::Memory, output, length),
+    }
+}
+
+/// Hands out the answer of `grew` without a list.
+fn grew(
+    alloc: Global,
+    earlier: &CadfBytes<'_>,
+    later: &CadfBytes<'_>,
+    proof: &CadfBytes<'_>,
+    output: &mut [u8],
+    length: &mut usize,
+) -> i32
+    ensures { IsCall (Ok (ask.Grew false)) (earlier.now.bytes.now ∷ later.now.bytes.now ∷ proof.now.bytes.now ∷ []) result output.old output.new length.new }
+{
+    let inputs = [*earlier, *later, *proof];
+    let request = Request::Grew { erased: false };
+    call(alloc, request, &inputs, output, length)
+}
+
+/// Hands out the answer of `grew` with a list.
+fn grew_but(
+    alloc: Global,
+    erased: &CadfBytes<'_>,
+    earlier: &CadfBytes<'_>,
+    later: &CadfBytes<'_>,
+    proof: &CadfBytes<'_>,
+    output: &mut [u8],
+    length: &mut usize,
+) -> i32
+    ensures { IsCall (Ok (ask.Grew true)) (earlier.now.bytes.now ∷ later.now.bytes.now ∷ proof.now.bytes.now ∷ erased.now.bytes.now ∷ []) result output.old output.new length.new }
+{
+    let inputs = [*earlier, *later, *proof, *erased];
+    let request = Request::Grew { erased: true };
+    call(alloc, request, &inputs, output, length)
+}
+
+/// Hands out a line that says how much was added, if the proof shows under both seals that the later set has all of the
+/// earlier one, but for what the erased list has. A list of no bytes is none.
+#[unsafe(no_mangle)]
+pub extern "C" fn cadf_grew(
+    alloc: Global,
+    erased: &CadfBytes<'_>,
+    earlier: &CadfBytes<'_>,
+    later: &CadfBytes<'_>,
+    proof: &CadfBytes<'_>,
+    output: &mut [u8],
+    length: &mut usize,
+) -> i32
+    ensures { IsCall (Ok (ask.Grew (is_given erased.now.bytes.now)))
+        (earlier.now.bytes.now ∷ later.now.bytes.now ∷ proof.now.bytes.now ∷ if_given erased.now.bytes.now) result output.old output.new length.new }
+{
+    if erased.bytes.is_empty() {
+        return grew(alloc, earlier, later, proof, output, length);
+    }
+    grew_but(alloc, erased, earlier, later, proof, output, length)
+}
+
+/// Hands out the replica file of what all inputs contribute, without what the erased list has, which is counted first.
+#[unsafe(no_mangle)]
+pub extern "C" fn cadf_omit(
+    alloc: Global,
+    list: &CadfBytes<'_>,
+    inputs: &[CadfBytes<'_>],
+    output: &mut [u8],
+    length: &mut usize,
+) -> i32
+    ensures { IsCall (Ok ask.Omit) (list.now.bytes.now ∷ bytes_in inputs.now) result output.old output.new length.new }
+{
+    match after(alloc, list, inputs) {
+        Ok(all) => call(alloc, Request::Omit, &all, output, length),
+        Err(_) => refuse(ArgumentFault::Memory, output, length),
+    }
 }
 
 /// Hands out the replica file of what `to` lacks of `from`.

@@ -1,5 +1,5 @@
 -- The atoms at the places of what is left are those that are left, and their file is that of what is left.
-use Rattle.cadf_erased.proofs.Common.{◌≡◌, ℕ, zero, suc, ◌+◌, Bool, true, false, cond, List, [], ◌∷◌, ◌++◌, drop, map, refl, sym, ap, ◌∙◌, append-nil, arith, Some, not, codes, slice_get, filter, filter_map, flat_map-append, encode_lower, sha256, rising, Texts, Contents, at_places, IsReplicaSet, ReplicaModel, in_order_retain, text_of_lines, with_line_feed, log_line, digest_line, with_digest_line, body_at, body_two, header_two, node_line, nodes_of_walk, no_empty, nodes_are_walked, Names, ErasedModel, is_omitted, is_left, left, left_of, places_left}
+use Rattle.cadf_erased.proofs.Common.{◌≡◌, ℕ, zero, suc, ◌+◌, Bool, true, false, cond, List, [], ◌∷◌, ◌++◌, drop, map, refl, sym, ap, ◌∙◌, append-nil, arith, Some, not, codes, slice_get, filter, filter_map, flat_map-append, encode_lower, sha256, rising, Texts, Contents, at_places, IsReplicaSet, ReplicaModel, in_order_retain, text_of_lines, with_line_feed, log_line, digest_line, with_digest_line, body_at, body_two, header_two, node_line, nodes_of_walk, no_empty, nodes_are_walked, Names, ListedModel, is_omitted, is_left, left, left_of, places_left}
 use Rattle.cadf_erased.proofs.LeftSets.{left_has}
 
 module _ {A : Type 0} where
@@ -31,7 +31,7 @@ found names ys n (x ∷ xs) e = by (found names ys (n + 1) xs (after ys n x xs e
 pub left_at : (names : Names) (s : Contents) → at_places (places_left 0 names (rising s)) (rising s) ≡ rising (left names s)
 left_at names s = found names (rising s) 0 (rising s) refl ∙ sym (in_order_retain s (is_left names))
 
-pub file_at : (e : ErasedModel) (h : ReplicaModel) (places : List ℕ) → IsReplicaSet h.atoms → places ≡ places_left 0 e.names (rising h.atoms)
+pub file_at : (e : ListedModel) (h : ReplicaModel) (places : List ℕ) → IsReplicaSet h.atoms → places ≡ places_left 0 e.names (rising h.atoms)
     → body_at places h ≡ body_two (left_of e h)
 file_at e h places kept is =
     ap (λ ps. body_at ps h) is

@@ -1,4 +1,4 @@
--- What of a set is left by a list of what was erased.
+-- What of a set is left by a list of facts and keys.
 --     is_omitted names q     the list has the key of the atom; or the atom is a ruling, and the list has its digest
 --     left names s           the atoms of the set that the list doesn't omit
 --     left_of e h            the replica of these
@@ -11,7 +11,7 @@ use Rattle.cadf_join.specs.Contents.{Texts, Contents}
 use Rattle.cadf_line.specs.Digest.{atom_digest}
 use Rattle.cadf_set.specs.Replica.{ReplicaModel}
 use Rattle.cadf_key.specs.Keys.{is_ruling, key_length, key_digest}
-use Rattle.cadf_erased.specs.ErasedFile.{Names, ErasedModel, fact_name, key_name}
+use Rattle.cadf_listed.specs.ListFile.{ListedModel, Names, fact_name, key_name}
 
 abbrev pub is_omitted : Names → Texts → Bool
 is_omitted names q = set.contains names (key_name (key_digest q)) || (is_ruling q && set.contains names (fact_name (atom_digest q)))
@@ -22,7 +22,7 @@ is_left names q = not (is_omitted names q)
 abbrev pub left : Names → Contents → Contents
 left names s = set.retain s (is_left names)
 
-abbrev pub left_of : ErasedModel → ReplicaModel → ReplicaModel
+abbrev pub left_of : ListedModel → ReplicaModel → ReplicaModel
 left_of e h = record { log = h.log; atoms = left e.names h.atoms }
 
 -- ---- the places of what is left

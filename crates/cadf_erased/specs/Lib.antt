@@ -1,4 +1,2 @@
-pub mod ErasedFile
-pub mod ErasedVerdict
 pub mod Left
 pub mod laws

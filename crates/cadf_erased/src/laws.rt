@@ -1,6 +1,6 @@
-//! Laws of lists of what was erased. Each function's contract is a theorem, and its body is empty.
+//! Laws of what a list of what was erased leaves. Each function's contract is a theorem, and its body is empty.
 
-ghost use Rattle.std.specs.Prelude.{◌≡◌, ◌↔◌, ◌≤◌, ℕ, Bool, length, true, false, Ok};
+ghost use Rattle.std.specs.Prelude.{◌≡◌, ◌↔◌, Bool, true, false};
 ghost use Rattle.cadf_join.specs.Sets as set;
 ghost use Rattle.cadf_join.specs.Contents.{Texts, Contents, Has, IsWithin};
 ghost use Rattle.cadf_line.specs.Atoms.{IsGrounded};
@@ -8,28 +8,7 @@ ghost use Rattle.cadf_line.specs.Missing.{missing};
 ghost use Rattle.cadf_atom.specs.AtomSets.{IsReplicaSet};
 ghost use Rattle.cadf_key.specs.Keys.{is_ruling, key_digest};
 ghost use Rattle.cadf_erased.specs.Left.{is_omitted, left};
-ghost use Rattle.cadf_erased.specs.ErasedFile.{ErasedFileIsInjective, IsErased, Names, erased_file, key_name};
-ghost use Rattle.cadf_erased.specs.ErasedVerdict.{AcceptsErased, erased_verdict};
-
-use crate::erased::Erased;
-
-/// States that the file of a list is injective: equal bytes have the same log and names.
-pub fn erased_file_is_injective()
-    ensures { ErasedFileIsInjective }
-{}
-
-/// States that bytes are accepted if and only if they are the file of a list, within the limit.
-pub fn accepted_bytes_are_erased()
-    ensures { AcceptsErased }
-{}
-
-/// States that the file of a list, within the limit, is accepted and read as that list.
-pub fn erased_is_read_back(erased: &Erased)
-    ensures erased { IsErased erased.now }
-    ensures read { (limit : ℕ) → length (erased_file erased.now) ≤ limit → erased_verdict limit false (erased_file erased.now) ≡ Ok erased.now }
-{
-    erased.type_invariant();
-}
+ghost use Rattle.cadf_listed.specs.ListFile.{Names, key_name};
 
 /// States that what is left are the atoms that the list doesn't omit; that nothing of a key is left that it has; and that
 /// of any other key all is left but rulings.

@@ -7,17 +7,17 @@ ghost use Rattle.cadf_join.specs.Prefixes.{texts_at};
 ghost use Rattle.cadf_line.specs.Digest.{atom_digest};
 ghost use Rattle.cadf_file.specs.FileTwo.{file_two};
 ghost use Rattle.cadf_key.specs.Keys.{is_ruling};
-ghost use Rattle.cadf_erased.specs.ErasedFile.{fact_name};
+ghost use Rattle.cadf_listed.specs.ListFile.{fact_name};
 ghost use Rattle.cadf_erased.specs.Left.{left_of, places_left, Collects, IsKnown};
 ghost use Rattle.cadf_erased.specs.laws.Places.{collects_none, collects_more, none_known, known_shared};
 
-use crate::erased::Erased;
 use cadf_file::write_body_at;
 use cadf_join::Visitor;
 use cadf_json::{Memory, OutFault, Sink};
 use cadf_key::{KeyDigests, is_ruling, key_length};
 use cadf_line::LineDigests;
 use cadf_linefile::write_digest;
+use cadf_listed::{Erased, Listed};
 use cadf_set::Replica;
 use std::alloc::Global;
 
@@ -25,7 +25,7 @@ use std::alloc::Global;
 /// an `Err` a prefix was written.
 pub fn write_left<S: Sink>(
     alloc: Global,
-    erased: &Erased,
+    erased: &Listed<Erased>,
     replica: &Replica,
     sink: &mut S,
 ) -> Result<(), OutFault>
@@ -40,7 +40,11 @@ pub fn write_left<S: Sink>(
 }
 
 /// Returns the indices, in order, of the atoms that are left. `Memory` if an allocation fails.
-fn places_left(alloc: Global, erased: &Erased, replica: &Replica) -> Result<Vec<usize>, Memory>
+fn places_left(
+    alloc: Global,
+    erased: &Listed<Erased>,
+    replica: &Replica,
+) -> Result<Vec<usize>, Memory>
     ensures { IfOk result (λ places. places.items ≡ places_left 0 erased.now.names (set.rising replica.now.atoms)) }
 {
     let mut collector = PlaceCollector {
@@ -59,7 +63,7 @@ fn places_left(alloc: Global, erased: &Erased, replica: &Replica) -> Result<Vec<
 /// list before was erased.
 #[derive(Drop)]
 struct PlaceCollector<'a> {
-    erased: &'a Erased,
+    erased: &'a Listed<Erased>,
     keys: KeyDigests,
     lines: LineDigests,
     has_key: bool,
@@ -104,7 +108,11 @@ impl Visitor for PlaceCollector<'_> {
 }
 
 /// Returns whether the list is a ruling that was erased by itself. `Memory` if an allocation fails.
-fn has_ruling(erased: &Erased, lines: &mut LineDigests, list: &[&str]) -> Result<bool, Memory>
+fn has_ruling(
+    erased: &Listed<Erased>,
+    lines: &mut LineDigests,
+    list: &[&str],
+) -> Result<bool, Memory>
     ensures { IfOk result (λ has. has ≡ (is_ruling (texts_at list.now) && set.contains erased.now.names (fact_name (atom_digest (texts_at list.now))))) }
 {
     if !is_ruling(list) {

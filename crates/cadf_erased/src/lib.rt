@@ -1,16 +1,8 @@
-//! Lists of what was erased of a log, by digests: their files, and what of a replica they leave.
+//! What of a replica is left by a list of what was erased of its log.
 #![tactic(auto)]
 
-mod erased;
 pub mod laws;
 mod left;
-mod lines;
-mod read;
-mod write;
 
-pub use cadf_json::{Memory, OutFault, Sink, Source};
-pub use cadf_linefile::{Cause, FILE_LIMIT, FileFault};
-pub use erased::Erased;
+pub use cadf_json::{OutFault, Sink};
 pub use left::write_left;
-pub use read::read_erased;
-pub use write::write_erased;

@@ -1,5 +1,5 @@
 -- Lines that differ in their digests alone, and the writing of them.
-use Rattle.cadf_evidence.proofs.Common.{◌≡◌, ℕ, ◌+◌, ◌<◌, length, List, [], ◌∷◌, ◌++◌, drop, flat_map, Option, sym, subst, ap, ◌∙◌, arith, append_assoc, append-nil, get_or, common_steps, flat_map-append, drop_more, Appends-trans, Appends, AppendsPrefix, front_after, front_more, Text, digest_text, alike_text, told_text, Alike}
+use Rattle.cadf_evidence.proofs.Common.{◌≡◌, ℕ, ◌+◌, ◌<◌, length, List, [], ◌∷◌, ◌++◌, drop, Option, sym, subst, ap, ◌∙◌, append_assoc, append-nil, get_or, flat_map-append, drop_more, Appends-trans, Appends, AppendsPrefix, front_after, front_more, Text, digest_text, alike_text, told_text, Alike}
 
 -- ---- a line that is added
 

@@ -1,17 +1,17 @@
 -- Which digests are asked for doesn't depend on their order.
-use Rattle.cadf_evidence.proofs.Common.{◌≡◌, ◌∙◌, ◌&&◌, ◌||◌, Bool, true, false, List, [], ◌∷◌, map, Option, Some, None, inl, inr, refl, ap, sym, subst, true≢false, list_any, option_or, false_from_ne_true, Text, Texts, Contents, rising, Listed, text_same, text_total, texts_same, texts_total, listed-rising, rising-listed, digest_of_some, known_digest, listed_map, map_listed, atom_digest, digests_of, fault_unless, is_hash, tree_fault, all_asked, first_part, needs, shown, items, NotNeeded, Part, Root, ℕ, Result, Ok, Err, ProofModel, SealModel, fact_digests, told, VerifyFaultIs, first_fault, keys_fault, text_unless, tree_refusal, verified, VerifyFault, Proof, NotShown, Absent, Present, Memory}
+use Rattle.cadf_evidence.proofs.Common.{◌≡◌, ◌∙◌, ◌&&◌, ◌||◌, Bool, true, false, List, [], ◌∷◌, map, Option, Some, None, inl, inr, refl, ap, sym, subst, true≢false, list_any, option_or, false_from_ne_true, Text, Contents, rising, Listed, text_same, text_total, texts_same, texts_total, listed-rising, rising-listed, digest_of_some, known_digest, listed_map, map_listed, atom_digest, digests_of, fault_unless, is_hash, tree_fault, all_asked, first_part, needs, shown, items, NotNeeded, Part, Root, ℕ, Result, Ok, Err, ProofModel, SealModel, fact_digests, told, VerifyFaultIs, first_fault, keys_fault, text_unless, tree_refusal, verified, VerifyFault, Proof, NotShown, Absent, Present, Memory}
 use Rattle.cadf_join.specs.Sets as set
 
 -- ---- lists with the same members
 
-abbrev AreWithin : List Text → List Text → Type 0
+abbrev pub AreWithin : List Text → List Text → Type 0
 AreWithin fs gs = (x : Text) → Listed x fs → Listed x gs
 
 or_right : (a b : Bool) → b ≡ true → (a || b) ≡ true
 or_right true b e = refl
 or_right false b e = e
 
-any_listed : (p : Text → Bool) (fs : List Text) → list_any p fs ≡ true → (x : Text) × Listed x fs × (p x ≡ true)
+pub any_listed : (p : Text → Bool) (fs : List Text) → list_any p fs ≡ true → (x : Text) × Listed x fs × (p x ≡ true)
 any_listed p [] e = absurd (true≢false (sym e))
 any_listed p (y ∷ fs) e = by (p y) refl e (λ k. any_listed p fs k)
   where
@@ -20,7 +20,7 @@ any_listed p (y ∷ fs) e = by (p y) refl e (λ k. any_listed p fs k)
     by true is k more = (y, inl refl, is)
     by false is k more = let m = more k in (m.0, inr m.1, m.2)
 
-listed_any : (p : Text → Bool) (fs : List Text) (x : Text) → Listed x fs → p x ≡ true → list_any p fs ≡ true
+pub listed_any : (p : Text → Bool) (fs : List Text) (x : Text) → Listed x fs → p x ≡ true → list_any p fs ≡ true
 listed_any p [] x l h = absurd l
 listed_any p (y ∷ fs) x (inl e) h = ap (λ b. b || list_any p fs) (ap p (sym e) ∙ h)
 listed_any p (y ∷ fs) x (inr l) h = or_right (p y) (list_any p fs) (listed_any p fs x l h)
@@ -28,7 +28,7 @@ listed_any p (y ∷ fs) x (inr l) h = or_right (p y) (list_any p fs) (listed_any
 any_within : (p : Text → Bool) (fs gs : List Text) → AreWithin fs gs → list_any p fs ≡ true → list_any p gs ≡ true
 any_within p fs gs w e = let m = any_listed p fs e in listed_any p gs m.0 (w m.0 m.1) m.2
 
-any_same : (p : Text → Bool) (fs gs : List Text) → AreWithin fs gs → AreWithin gs fs → list_any p fs ≡ list_any p gs
+pub any_same : (p : Text → Bool) (fs gs : List Text) → AreWithin fs gs → AreWithin gs fs → list_any p fs ≡ list_any p gs
 any_same p fs gs w v = by (list_any p fs) refl
   where
     by : (b : Bool) → list_any p fs ≡ b → list_any p fs ≡ list_any p gs
@@ -45,13 +45,13 @@ shown_same r ps fs gs w v = ap (λ b. option_or (tree_fault r r ps) (fault_unles
 
 -- ---- digests of facts
 
-digests_within : (s : Contents) → AreWithin (map atom_digest (rising s)) (fact_digests s)
+pub digests_within : (s : Contents) → AreWithin (map atom_digest (rising s)) (fact_digests s)
 digests_within s x l =
     let m = map_listed atom_digest (rising s) x l in
     let has = known_digest atom_digest s m.0 (listed-rising texts_total texts_same s m.0 m.1) in
     rising-listed text_total text_same (digests_of atom_digest s) x (subst (λ d. set.contains (digests_of atom_digest s) d ≡ true) (sym m.2) has)
 
-digests_around : (s : Contents) → AreWithin (fact_digests s) (map atom_digest (rising s))
+pub digests_around : (s : Contents) → AreWithin (fact_digests s) (map atom_digest (rising s))
 digests_around s x l =
     let t = digest_of_some atom_digest s x (listed-rising text_total text_same (digests_of atom_digest s) x l) in
     subst (λ d. Listed d (map atom_digest (rising s))) (sym t.2) (listed_map atom_digest (rising s) t.0 (rising-listed texts_total texts_same s t.0 t.1))

@@ -1,10 +1,10 @@
 -- What the proofs of this crate take from outside. Written by tests/proofs/imports.py.
 pub use Rattle.cadf_event.proofs.KnownParts.{all_append}
-pub use Rattle.cadf_event.proofs.LogNameLemmas.{both_unbroken, unbroken_quoted}
+pub use Rattle.cadf_event.proofs.LogNameLemmas.{unbroken_quoted}
 pub use Rattle.cadf_event.specs.Known.{IsNameText}
 pub use Rattle.cadf_event.specs.LogName.{is_name_text, is_unbroken}
-pub use Rattle.cadf_evidence.specs.Growth.{all_gone_fault, error_of, first_unlisted, gone_fault, growth_of, growth_text, is_listed, keys_growth, later_fault, log_fault, placed, told_growth, unless_log, unlisted}
-pub use Rattle.cadf_evidence.specs.Made.{AllGoneAreListed, FactsProofIsTold, GrowthProofIsTold, facts_growth, keys_growth_parts}
+pub use Rattle.cadf_evidence.specs.Growth.{all_gone_fault, error_of, first_unlisted, gone_fault, growth_of, growth_text, is_listed, keys_growth, later_fault, list_fault, log_fault, placed, told_growth, unless_log, unlisted}
+pub use Rattle.cadf_evidence.specs.Made.{AllGoneAreListed, FactsProofIsTold, GrowthProofIsTold, IsOfLog, ListedGrowthIsGrowth, facts_growth, keys_growth_parts}
 unfoldable pub use Rattle.cadf_evidence.specs.Marked.{digest_after, number_after, rest_after}
 pub use Rattle.cadf_evidence.specs.ProofFile.{AreKeyParts, AreParts, HasProofParts, IsPart, IsProof, ProofFileIsInjective, ProofModel, keys_line, keys_lines, node_line, part_line, proof_body, proof_header, proof_lines}
 pub use Rattle.cadf_evidence.specs.ProofLines.{AreTold, IsPutInto}
@@ -14,13 +14,13 @@ pub use Rattle.cadf_evidence.specs.SealFile.{IsRoot, IsSeal, SealFileIsInjective
 pub use Rattle.cadf_evidence.specs.SealLines.{IsPut}
 pub use Rattle.cadf_evidence.specs.SealVerdict.{seal_kind, seal_model_in}
 pub use Rattle.cadf_evidence.specs.ShownParts.{any_gap}
-pub use Rattle.cadf_evidence.specs.Soundness.{EqualSealsAreOfOneSet, FactsAreSo, GrowthIsSo, fact_digests, given_parts, key_digests, unchanged_parts}
+pub use Rattle.cadf_evidence.specs.Soundness.{Differ, EqualSealsAreOfOneSet, FactsAreSo, GrowthIsSo, NothingGoesUnlisted, StayOrAreListed, fact_digests, given_parts, key_digests, unchanged_parts}
 pub use Rattle.cadf_evidence.specs.Told.{alike_text, digest_text, told, told_text}
 pub use Rattle.cadf_evidence.specs.Verified.{VerifyFaultIs, fact_fault, first_fault, keys_fault, text_unless, tree_refusal, verified}
 pub use Rattle.cadf_evidence.specs.declared.growth.GrowthFault.{GrowthFault}
+pub use Rattle.cadf_evidence.specs.declared.growth.GrowthFault.TheVariants.{OtherLog}
 pub use Rattle.cadf_evidence.specs.declared.growth.SealedSet.{SealedSet}
 pub use Rattle.cadf_evidence.specs.declared.growth.SealedSet.TheVariants.{Facts, Keys}
-pub use Rattle.cadf_evidence.specs.declared.seal_lines.Told.{Told}
 pub use Rattle.cadf_evidence.specs.declared.seal_lines.Told.TheVariants.{Count, KeyCount, Nothing, Whole}
 pub use Rattle.cadf_evidence.specs.declared.telling.Alike.{Alike}
 pub use Rattle.cadf_evidence.specs.declared.verify.VerifyFault.{VerifyFault}
@@ -29,11 +29,11 @@ pub use Rattle.cadf_inventory.proofs.DigestLines.{digest-again, digest-only, sha
 pub use Rattle.cadf_inventory.proofs.InventoryVerdictLemmas.{each_digest}
 pub use Rattle.cadf_inventory.proofs.RisingLists.{rising_set, set_again}
 pub use Rattle.cadf_inventory.specs.InventoryVerdict.{digest_of}
-pub use Rattle.cadf_join.proofs.Outcome.{on_ok_then}
+pub use Rattle.cadf_join.proofs.Outcome.{if_ok_then, on_ok_then}
 pub use Rattle.cadf_join.specs.Contents.{Contents, Has, IsWithin, Text, Texts, text_cmp}
 pub use Rattle.cadf_join.specs.Sets.{Listed, rising}
 pub use Rattle.cadf_join.specs.laws.Contents.{text_same, text_total, texts_same, texts_total}
-pub use Rattle.cadf_join.specs.laws.Rising.{listed-rising, rising-listed}
+pub use Rattle.cadf_join.specs.laws.Rising.{AllByRecursion-listed, listed-rising, rising-listed}
 pub use Rattle.cadf_json.specs.Streams.{AppendsPrefix}
 pub use Rattle.cadf_key.specs.Keys.{key_digest, keys_of}
 pub use Rattle.cadf_line.proofs.Missing.{digest_of_some, known_digest, listed_map, map_listed}
@@ -53,10 +53,12 @@ pub use Rattle.cadf_linefile.specs.Numbers.{number_in}
 pub use Rattle.cadf_linefile.specs.Verdict.{begins_digest, log_line, with_digest_line}
 pub use Rattle.cadf_linefile.specs.declared.fault.Cause.TheVariants.{Shape}
 pub use Rattle.cadf_linefile.specs.laws.Prefixes.{front_after, front_more}
-pub use Rattle.cadf_set.specs.Inventory.{AreDigests, InventoryModel}
+pub use Rattle.cadf_listed.specs.ListFile.{AreRisingDigests, ListedModel, facts_of, keys_of as listed_keys, list_over}
+pub use Rattle.cadf_set.specs.Inventory.{AreDigests, InventoryModel, inventory_of}
+pub use Rattle.cadf_tree.proofs.Comparing.{union_set}
 pub use Rattle.cadf_tree.specs.Grown.{all_needed, are_equal, fault_unless, growth_unless, hidden_leaves, is_hash, is_text, order_fault, tree_fault, verdict}
-pub use Rattle.cadf_tree.specs.GrowthLaws.{AreRising, BothAreHonest, DoNotCollide, HasHash, HaveHashes, IsDifference, IsHashedForBoth, Marked, is_added, is_gone, those}
-pub use Rattle.cadf_tree.specs.GrowthMade.{GrowthIsComplete}
+pub use Rattle.cadf_tree.specs.GrowthLaws.{AreRising, BothAreHonest, DoNotCollide, HaveHashes, IsHashedForBoth, Marked, is_added, is_gone, those}
+pub use Rattle.cadf_tree.specs.GrowthMade.{GrowthIsComplete, compared, digests_of as compared_digests, growth_parts}
 pub use Rattle.cadf_tree.specs.Made.{Kinds, any_shown, first_kind, made_leaf, made_parts, preorder, size}
 pub use Rattle.cadf_tree.specs.Presence.{PresenceIsSound, all_asked, first_part, is_absent, is_leaf, is_present, member, needs, shown, state}
 pub use Rattle.cadf_tree.specs.PresenceMade.{PresenceIsComplete, asked_kinds, first_digest, is_between, kind_if, presence_parts}
@@ -72,7 +74,7 @@ pub use Rattle.cadf_tree.specs.declared.parts.Part.TheVariants.{Hash, Leaf, Node
 pub use Rattle.cadf_tree.specs.declared.tree.Root.{Root}
 pub use Rattle.hex.specs.Hex.{encode_lower}
 pub use Rattle.sha2.proofs.Facts256.{length-sha256}
-pub use Rattle.std.proofs.Common.{Bool, Err, List, None, Ok, Option, Result, Some, [], ap, append-nil, append_assoc, arith, cond, drop, false, flat_map, get_or, if◌then◌else◌, inl, inr, length, map, not, refl, rules, subst, sym, take, true, true≢false, ℕ, ◌++◌, ◌+◌, ◌<◌, ◌^◌, ◌∙◌, ◌∷◌, ◌≡◌, ◌≤◌}
+pub use Rattle.std.proofs.Common.{Bool, Err, List, None, Ok, Option, Result, Some, [], ap, append-nil, append_assoc, arith, cond, drop, false, get_or, if◌then◌else◌, inl, inr, length, map, not, refl, rules, subst, sym, take, true, true≢false, ℕ, ◌++◌, ◌+◌, ◌<◌, ◌^◌, ◌∙◌, ◌∷◌, ◌≡◌, ◌≤◌}
 pub use Rattle.std.proofs.KnownBytes.{Appends-trans}
 pub use Rattle.std.proofs.Math.Seq.{drop-append_seam, take-append_seam}
 pub use Rattle.std.proofs.lemmas.Bool.{eq-eqb, false_from_ne_true, le-leb, le-ltb}

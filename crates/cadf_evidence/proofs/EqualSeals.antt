@@ -1,5 +1,5 @@
 -- Equal seals are of one log and one set of facts.
-use Rattle.cadf_evidence.proofs.Common.{false, ◌≡◌, ◌∙◌, ◌≤◌, ℕ, List, [], ◌∷◌, length, true, Option, Some, None, Ok, refl, sym, ap, subst, arith, common_steps, bytes_eq-Decides, Text, Texts, Contents, Has, IsWithin, rising, texts_same, texts_total, set_again, digest_of_some, known_digest, atom_digest, NoCollision, digests_of, are_equal, fault_unless, growth_unless, hidden_leaves, is_text, order_fault, verdict, NotNeeded, OtherCount, OtherEarlierRoot, OtherLaterRoot, option_or, eq-eqb, le-leb, le-ltb, BothAreHonest, DoNotCollide, HaveHashes, IsDifference, IsHashedForBoth, Marked, is_added, is_gone, those, is_earlier, is_later, leaves_of, Branch, IsSet, Tip, Tree, hash, leaf_text, node_text, root, root_hash, tree_hash, tree_of, Both, Added, Gone, Root, length-sha256, EqualSealsAreOfOneSet, fact_digests, unchanged_parts, seal_of}
+use Rattle.cadf_evidence.proofs.Common.{false, ◌≡◌, ◌∙◌, ◌≤◌, ℕ, List, [], ◌∷◌, length, true, Option, Some, None, Ok, refl, sym, ap, subst, arith, common_steps, bytes_eq-Decides, Text, Contents, Has, IsWithin, rising, texts_same, texts_total, set_again, digest_of_some, known_digest, atom_digest, NoCollision, digests_of, are_equal, fault_unless, growth_unless, hidden_leaves, is_text, order_fault, verdict, NotNeeded, OtherCount, OtherEarlierRoot, OtherLaterRoot, option_or, eq-eqb, le-leb, le-ltb, BothAreHonest, DoNotCollide, HaveHashes, IsHashedForBoth, Marked, is_added, is_gone, those, is_earlier, is_later, leaves_of, Branch, IsSet, Tip, Tree, hash, leaf_text, node_text, root, root_hash, tree_hash, tree_of, Both, Added, Gone, Root, length-sha256, EqualSealsAreOfOneSet, unchanged_parts}
 use Rattle.cadf_join.specs.Sets as set
 use Rattle.cadf_join.specs.laws.Sets as laws
 use Rattle.cadf_join.proofs.Members as members

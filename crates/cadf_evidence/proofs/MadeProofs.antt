@@ -1,45 +1,17 @@
 -- The proofs that are made are accepted.
-use Rattle.cadf_evidence.proofs.Common.{◌≡◌, ◌∙◌, ℕ, ◌+◌, List, [], ◌∷◌, map, Bool, true, false, not, Option, Some, None, refl, sym, ap, subst, inl, inr, true≢false, arith, common_steps, false_from_ne_true, bytes_eq-Decides, list_any, option_or, ◌||◌, Text, Contents, Has, Listed, rising, text_same, text_total, texts_same, texts_total, listed-rising, rising-listed, digest_of_some, known_digest, listed_map, map_listed, atom_digest, Digests, digests_of, GrowthIsComplete, made_parts, member, shown, state, PresenceIsComplete, asked_kinds, first_digest, is_between, kind_if, presence_parts, tree_of, Both, Added, Went, Part, Node, Hash, Leaf, error_of, first_unlisted, gone_fault, log_fault, placed, told_growth, unless_log, AllGoneAreListed, FactsProofIsTold, GrowthProofIsTold, facts_growth, keys_growth_parts, seal_of, fact_digests, key_digests, told, fact_fault, first_fault, text_unless, tree_refusal, SealedSet, Facts, Keys}
+use Rattle.cadf_evidence.proofs.Common.{◌≡◌, ◌∙◌, ℕ, ◌+◌, List, [], ◌∷◌, map, Bool, true, false, not, Option, Some, None, refl, sym, ap, subst, inl, inr, true≢false, arith, common_steps, false_from_ne_true, bytes_eq-Decides, option_or, Text, Contents, Listed, rising, text_same, text_total, texts_same, texts_total, listed-rising, rising-listed, map_listed, atom_digest, Digests, digests_of, GrowthIsComplete, made_parts, member, shown, state, PresenceIsComplete, asked_kinds, first_digest, is_between, kind_if, presence_parts, tree_of, Both, Added, Went, Part, Node, Hash, Leaf, error_of, first_unlisted, gone_fault, log_fault, placed, told_growth, unless_log, AllGoneAreListed, FactsProofIsTold, GrowthProofIsTold, facts_growth, keys_growth_parts, seal_of, fact_digests, key_digests, told, fact_fault, first_fault, text_unless, tree_refusal, SealedSet, Facts, Keys, is_text, if◌then◌else◌, InventoryModel, keys_of, inventory_of, growth_parts, ListedModel, facts_of, listed_keys, list_over, list_fault, IsOfLog, ListedGrowthIsGrowth, OtherLog}
 use Rattle.cadf_join.specs.Sets as set
+use Rattle.cadf_evidence.proofs.AskedDigests.{AreWithin, any_same, digests_around, digests_within}
 use Rattle.cadf_evidence.proofs.GrownSets.{keys_are_set}
 use Rattle.cadf_evidence.proofs.SetsOfDigests.{facts_are_set}
 use Rattle.cadf_evidence.proofs.ToldFacts.{listed_member, member_listed}
 
 -- ---- lists with the same members ask for the same parts
 
-any_listed : (p : Text → Bool) (x : Text) (fs : List Text) → Listed x fs → p x ≡ true → list_any p fs ≡ true
-any_listed p x [] l e = absurd l
-any_listed p x (f ∷ fs) (inl same) e = ap (λ b. b || list_any p fs) (ap p (sym same) ∙ e)
-any_listed p x (f ∷ fs) (inr l) e = either (p f) (list_any p fs) (any_listed p x fs l e)
-  where
-    either : (a b : Bool) → b ≡ true → (a || b) ≡ true
-    either true b k = refl
-    either false b k = k
-
-listed_any : (p : Text → Bool) (fs : List Text) → list_any p fs ≡ true → (x : Text) × Listed x fs × (p x ≡ true)
-listed_any p [] e = absurd (true≢false (sym e))
-listed_any p (f ∷ fs) e = by (p f) refl e (λ k. listed_any p fs k)
-  where
-    by : (b : Bool) → p f ≡ b → (b || list_any p fs) ≡ true → (list_any p fs ≡ true → (x : Text) × Listed x fs × (p x ≡ true))
-        → (x : Text) × Listed x (f ∷ fs) × (p x ≡ true)
-    by true is k more = (f, inl refl, is)
-    by false is k more = let m = more k in (m.0, inr m.1, m.2)
-
-both_ways : (a b : Bool) → (a ≡ true → b ≡ true) → (b ≡ true → a ≡ true) → a ≡ b
-both_ways true b f g = sym (f refl)
-both_ways false true f g = g refl
-both_ways false false f g = refl
-
-module _ (fs gs : List Text) (to : (x : Text) → Listed x fs → Listed x gs) (from : (x : Text) → Listed x gs → Listed x fs) where
-  same_any : (p : Text → Bool) → list_any p fs ≡ list_any p gs
-  same_any p =
-      both_ways (list_any p fs) (list_any p gs)
-      (λ e. let m = listed_any p fs e in any_listed p m.0 gs (to m.0 m.1) m.2)
-      (λ e. let m = listed_any p gs e in any_listed p m.0 fs (from m.0 m.1) m.2)
-
+module _ (fs gs : List Text) (to : AreWithin fs gs) (from : AreWithin gs fs) where
   same_kinds : (before : Option Text) (ds : List Text) → asked_kinds before ds fs ≡ asked_kinds before ds gs
   same_kinds before [] = refl
-  same_kinds before (d ∷ ds) = λ i. kind_if (same_any (is_between before (first_digest ds)) i) ∷ same_kinds (Some d) ds i
+  same_kinds before (d ∷ ds) = λ i. kind_if (any_same (is_between before (first_digest ds)) fs gs to from i) ∷ same_kinds (Some d) ds i
 
   pub same_parts : (ds : List Text) → presence_parts ds fs ≡ presence_parts ds gs
   same_parts ds = ap (made_parts (tree_of ds)) (same_kinds None ds)
@@ -48,17 +20,6 @@ module _ (fs gs : List Text) (to : (x : Text) → Listed x fs → Listed x gs) (
 
 abbrev listed_digests : Contents → List Text
 listed_digests facts = map atom_digest (rising facts)
-
-to_digests : (facts : Contents) (x : Text) → Listed x (listed_digests facts) → Listed x (fact_digests facts)
-to_digests facts x l =
-    let t = map_listed atom_digest (rising facts) x l in
-    let has = known_digest atom_digest facts t.0 (listed-rising texts_total texts_same facts t.0 t.1) in
-    rising-listed text_total text_same (digests_of atom_digest facts) x (subst (λ y. Has (digests_of atom_digest facts) y) (sym t.2) has)
-
-of_digests : (facts : Contents) (x : Text) → Listed x (fact_digests facts) → Listed x (listed_digests facts)
-of_digests facts x l =
-    let t = digest_of_some atom_digest facts x (listed-rising text_total text_same (digests_of atom_digest facts) x l) in
-    subst (λ y. Listed y (listed_digests facts)) (sym t.2) (listed_map atom_digest (rising facts) t.0 (rising-listed texts_total texts_same facts t.0 t.1))
 
 right_fact : (absent : Bool) (k : ℕ) → fact_fault absent k (Some (not absent)) ≡ None
 right_fact true k = refl
@@ -79,7 +40,7 @@ facts_proof_is_told complete held given absent asked =
     let facts = given.atoms in
     let ds = fact_digests held.atoms in
     let fs = listed_digests facts in
-    let parts = same_parts (fact_digests facts) fs (of_digests facts) (to_digests facts) ds in
+    let parts = same_parts (fact_digests facts) fs (digests_around facts) (digests_within facts) ds in
     let c = complete ds fs (facts_are_set held.atoms) in
     let states = λ (f : Text) (l : Listed f fs).
     let t = map_listed atom_digest (rising facts) f l in
@@ -93,26 +54,43 @@ facts_proof_is_told complete held given absent asked =
 
 -- ---- growth
 
-no_log : (a b : Text) → a ≡ b → log_fault a b b ≡ None
-no_log a b e = grind (arith, common_steps, bytes_eq-Decides)
+of_log : (log : Text) (list : Option ListedModel) → IsOfLog log list → list_fault log list ≡ None
+of_log log None is = refl
+of_log log (Some l) is = ap (λ x. if is_text x log then None else Some (OtherLog 4)) is ∙ ap (λ b. if b then None else Some (OtherLog 4)) ((bytes_eq-Decides log log).1 refl)
 
-nothing_went : (list : Option Digests) (ps : List Part) → AllGoneAreListed list ps → first_unlisted list ps ≡ None
-nothing_went list [] each = refl
-nothing_went list (Node ∷ ps) each = nothing_went list ps each
-nothing_went list (Hash h ∷ ps) each = nothing_went list ps each
-nothing_went list (Leaf Both d ∷ ps) each = nothing_went list ps each
-nothing_went list (Leaf Added d ∷ ps) each = nothing_went list ps each
-nothing_went list (Leaf Went d ∷ ps) each = grind (arith, common_steps, (nothing_went list ps each.1), each)
+no_log : (a b : Text) (list : Option ListedModel) → a ≡ b → IsOfLog b list → log_fault a b b list ≡ None
+no_log a b list e is =
+    let same = (bytes_eq-Decides b b).1 refl in
+    ap (λ x. log_fault x b b list) e ∙ (λ i. if same i then (if same i then list_fault b list else Some (OtherLog 3)) else Some (OtherLog 2)) ∙ of_log b list is
 
-no_gone : (t : SealedSet) (list : Option Digests) (ps : List Part) → AllGoneAreListed list ps → gone_fault t list ps ≡ None
+nothing_went : (t : SealedSet) (list : Option ListedModel) (ps : List Part) → AllGoneAreListed t list ps → first_unlisted t list ps ≡ None
+nothing_went t list [] each = refl
+nothing_went t list (Node ∷ ps) each = nothing_went t list ps each
+nothing_went t list (Hash h ∷ ps) each = nothing_went t list ps each
+nothing_went t list (Leaf Both d ∷ ps) each = nothing_went t list ps each
+nothing_went t list (Leaf Added d ∷ ps) each = nothing_went t list ps each
+nothing_went t list (Leaf Went d ∷ ps) each = λ i. option_or (if each.0 i then None else Some d) (nothing_went t list ps each.1 i)
+
+no_gone : (t : SealedSet) (list : Option ListedModel) (ps : List Part) → AllGoneAreListed t list ps → gone_fault t list ps ≡ None
 no_gone t list ps each = grind (arith, common_steps, nothing_went)
 
 pub growth_proof_is_told : GrowthIsComplete → GrowthProofIsTold
-growth_proof_is_told complete old new list same facts_listed keys_listed =
+growth_proof_is_told complete old new list same of_list facts_listed keys_listed =
     let facts = complete (fact_digests old.atoms) (fact_digests new.atoms) (facts_are_set old.atoms) (facts_are_set new.atoms) in
     let keys = complete (key_digests old.atoms) (key_digests new.atoms) (keys_are_set old.atoms) (keys_are_set new.atoms) in
-    let logs = no_log old.log new.log same in
+    let logs = no_log old.log new.log list same of_list in
     let one = no_gone Facts list (facts_growth old new) facts_listed in
     let two = no_gone Keys list (keys_growth_parts old new) keys_listed in
     λ i. unless_log (logs i)
     (told_growth (option_or (error_of (placed Keys (keys.accepted i))) (option_or (one i) (two i))) list (placed Facts (facts.accepted i)))
+
+pub listed_growth : ((facts keys : InventoryModel) → facts_of (list_over facts keys) ≡ rising facts.digests)
+    → ((facts keys : InventoryModel) → listed_keys (list_over facts keys) ≡ rising keys.digests) → ListedGrowthIsGrowth
+listed_growth facts keys old new =
+    let n = inventory_of old in
+    let k : InventoryModel = record { log = old.log; digests = keys_of old.atoms } in
+    λ i. record {
+      log = new.log;
+      facts = growth_parts (facts n k i) (fact_digests new.atoms);
+      keys = Some (growth_parts (keys n k i) (key_digests new.atoms));
+    }

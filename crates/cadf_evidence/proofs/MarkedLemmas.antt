@@ -1,5 +1,5 @@
 -- A marked line decodes to what it encodes, and no other line does.
-use Rattle.cadf_evidence.proofs.Common.{◌≡◌, ℕ, ◌<◌, ◌^◌, List, [], ◌∷◌, ◌++◌, length, take, drop, Bool, true, false, cond, Option, Some, None, refl, sym, ap, ◌∙◌, arith, common_steps, take-append-drop, take-append_seam, drop-append_seam, bytes_eq-Decides, option_and_then, decimal, bytes_eq, encode_lower, Text, IsDigest, number_in, chosen, number-again, number-only, digest_of, digest-again, digest-only, rest_after, number_after, digest_after, number_line, digest_line}
+use Rattle.cadf_evidence.proofs.Common.{◌≡◌, ℕ, ◌<◌, ◌^◌, List, ◌++◌, length, take, drop, cond, Option, Some, None, refl, sym, ap, ◌∙◌, take-append-drop, take-append_seam, drop-append_seam, bytes_eq-Decides, option_and_then, decimal, bytes_eq, encode_lower, Text, IsDigest, number_in, chosen, number-again, number-only, digest_of, digest-again, digest-only, rest_after, number_after, digest_after, number_line, digest_line}
 
 -- ---- what is after a mark
 

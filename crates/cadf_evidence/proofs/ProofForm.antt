@@ -1,7 +1,8 @@
 -- A proof that is made of digests has the form of one, and shows of each whether it is in the set.
-use Rattle.cadf_evidence.proofs.Common.{◌≡◌, ◌++◌, Bool, true, false, if◌then◌else◌, List, [], ◌∷◌, Option, Some, None, take, drop, ap, sym, subst, AllByRecursion, nat_cmp, is_lt, slice_cmp, all_append, Text, rising, sha_digest, each_digest, rising_set, IsDigest, Digests, InventoryModel, AreDigests, AreRising, Kinds, any_shown, first_kind, size, made_leaf, preorder, made_parts, asked_kinds, presence_parts, Hidden, Fork, IsSet, Tree, Tip, Branch, leaf_text, node_text, hash, leaves, all_leaves, tree_of, Kind, IsPart, AreParts}
+use Rattle.cadf_evidence.proofs.Common.{◌≡◌, ◌++◌, Bool, true, false, if◌then◌else◌, List, [], ◌∷◌, Option, Some, None, take, drop, ap, sym, subst, AllByRecursion, nat_cmp, is_lt, slice_cmp, all_append, Text, rising, sha_digest, each_digest, rising_set, IsDigest, Digests, AreDigests, AreRising, Kinds, any_shown, first_kind, size, made_leaf, preorder, made_parts, asked_kinds, presence_parts, Hidden, Fork, IsSet, Tree, Tip, Branch, leaf_text, node_text, hash, leaves, all_leaves, tree_of, Kind, IsPart, AreParts, compared, compared_digests, growth_parts, union_set}
 unfoldable use Rattle.std.specs.List.Sorted.{IsStrictlySortedBy}
 unfoldable use Rattle.cadf_tree.specs.Made.{made}
+use Rattle.cadf_tree.specs.Tree as tree
 use Rattle.cadf_evidence.proofs.SetsOfDigests.{digests_are_set}
 
 -- ---- the form of parts
@@ -46,6 +47,16 @@ pub presence_form : HasTheSet → (s : Digests) (fs : List Text) → AreDigests 
 presence_form leaves_are s fs are =
     option_parts (tree_of (rising s)) (asked_kinds None (rising s) fs)
     (subst (λ ds. AllByRecursion IsDigest ds) (sym (leaves_are (rising s) (digests_are_set s are))) (each_digest s are))
+
+line_digests : (ds : List Text) → AllByRecursion tree.IsDigest ds → AllByRecursion IsDigest ds
+line_digests [] each = tt
+line_digests (d ∷ ds) each = (record { size = each.0.size; bytes = each.0.bytes }, line_digests ds each.1)
+
+pub growth_form : HasTheSet → (os ns : List Text) → IsSet os → IsSet ns → AreParts (growth_parts os ns)
+growth_form leaves_are os ns old new =
+    let set = union_set os ns old new in
+    let ds = compared_digests (compared os ns) in
+    option_parts (tree_of ds) _ (subst (λ es. AllByRecursion IsDigest es) (sym (leaves_are ds set)) (line_digests ds set.digests))
 
 -- ---- digests that are asked for rise
 

@@ -1,5 +1,5 @@
 -- The lines of a proof's file: what each decodes to, that they are a kind of file, and how they are read one by one.
-use Rattle.cadf_evidence.proofs.Common.{◌≡◌, inl, inr, ℕ, List, [], ◌∷◌, ◌++◌, map, Bool, true, false, cond, true≢false, Option, Some, None, refl, sym, ap, ◌∙◌, subst, arith, append_assoc, append-nil, common_steps, bytes_eq-Decides, ◌⊎◌, ◌&&◌, ◌||◌, not, nat_eq, codes, is_some, option_map, AllByRecursion, option_or, bytes_eq, encode_lower, Text, is_name_text, is_unbroken, IsNameText, all_append, unbroken_quoted, AreAfter, map_more, and_true, are_unbroken, shape_none, Ends, Follows, IsModelKind, Plain, accepts-models, lines_of, models-tell, name_is, unbroken_digest, good_log, shape_unless, AcceptsModels, log_line, with_digest_line, begins_digest, unbroken_digest_of, IsDigest, Both, Added, Gone, Part, Node, Hash, Leaf, rest_after, digest_after, digest_line, ProofModel, proof_header, node_line, keys_line, part_line, keys_lines, proof_lines, proof_body, IsPart, AreParts, AreKeyParts, HasProofParts, IsProof, ProofFileIsInjective, leaf_in, part_in, starts_keys, have_begun, cause_after, parts_in, facts_in, keys_in, proof_model_in, proof_kind, IsPutInto}
+use Rattle.cadf_evidence.proofs.Common.{◌≡◌, inl, inr, ℕ, List, [], ◌∷◌, ◌++◌, map, Bool, true, false, cond, true≢false, Option, Some, None, refl, sym, ap, ◌∙◌, subst, arith, append_assoc, append-nil, common_steps, bytes_eq-Decides, ◌⊎◌, ◌&&◌, ◌||◌, not, nat_eq, codes, is_some, option_map, option_or, bytes_eq, encode_lower, Text, is_name_text, is_unbroken, IsNameText, all_append, unbroken_quoted, AreAfter, map_more, and_true, are_unbroken, Ends, Follows, IsModelKind, Plain, accepts-models, lines_of, models-tell, name_is, unbroken_digest, good_log, shape_unless, AcceptsModels, log_line, with_digest_line, begins_digest, unbroken_digest_of, IsDigest, Both, Added, Gone, Part, Node, Hash, Leaf, rest_after, digest_after, digest_line, ProofModel, proof_header, node_line, keys_line, part_line, keys_lines, proof_lines, proof_body, IsPart, AreParts, AreKeyParts, HasProofParts, IsProof, ProofFileIsInjective, leaf_in, part_in, starts_keys, have_begun, cause_after, parts_in, facts_in, keys_in, proof_model_in, proof_kind, IsPutInto}
 use Rattle.cadf_linefile.specs.Verdict as frame
 use Rattle.cadf_evidence.proofs.MarkedLemmas.{digest_after-again, digest_after-only}
 

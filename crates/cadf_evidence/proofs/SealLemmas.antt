@@ -1,6 +1,5 @@
 -- The lines of a seal's file: that they are a kind of file, and how they are read one by one.
-use Rattle.cadf_evidence.proofs.Common.{◌≡◌, ℕ, ◌<◌, ◌^◌, List, [], ◌∷◌, ◌++◌, true, true≢false, Option, Some, None, refl, sym, ap, ◌∙◌, arith, common_steps, codes, is_some, unwrap_or, Text, is_name_text, IsNameText, both_unbroken, unbroken_quoted, AreAfter, and_true, are_unbroken, shape_none, there, Ends, Follows, IsModelKind, Plain, accepts-models, lines_of, models-tell, name_is, decimal_unbroken, unbroken_digest, good_log, shape_unless, AcceptsModels, log_line, with_digest_line, Shape, unbroken_digest_of, IsDigest, Root, number_after, digest_after, SealModel, seal_header, seal_body, number_line, digest_line, IsRoot, IsSeal, SealFileIsInjective, seal_kind, seal_model_in, IsPut, Told, Nothing, Count, KeyCount, Whole}
-use Rattle.cadf_evidence.specs.SealVerdict.{cause_after}
+use Rattle.cadf_evidence.proofs.Common.{◌≡◌, ℕ, ◌<◌, ◌^◌, List, [], ◌∷◌, true, true≢false, Some, None, refl, sym, ap, arith, common_steps, codes, is_some, unwrap_or, Text, is_name_text, IsNameText, unbroken_quoted, AreAfter, and_true, are_unbroken, shape_none, there, Ends, Follows, IsModelKind, Plain, accepts-models, lines_of, models-tell, name_is, decimal_unbroken, unbroken_digest, good_log, shape_unless, AcceptsModels, log_line, with_digest_line, Shape, unbroken_digest_of, IsDigest, Root, number_after, digest_after, SealModel, seal_header, seal_body, number_line, digest_line, IsRoot, IsSeal, SealFileIsInjective, seal_kind, seal_model_in, IsPut, Nothing, Count, KeyCount, Whole}
 use Rattle.cadf_evidence.specs.declared.seal_lines.Told.TheVariants.{Facts}
 use Rattle.cadf_evidence.proofs.MarkedLemmas.{number_after-again, number_after-only, digest_after-again, digest_after-only}
 

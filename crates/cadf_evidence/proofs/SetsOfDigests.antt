@@ -1,5 +1,5 @@
 -- Sets of digests, as the tree takes them.
-use Rattle.cadf_evidence.proofs.Common.{◌≡◌, ◌<◌, ◌^◌, List, [], ◌∷◌, length, sym, subst, arith, AllByRecursion, Text, Contents, rising, sha_digest, each_digest, rising_set, digest_of_some, IsDigest, atom_digest, Digests, digests_of, AreDigests, IsSet, root, root_text, tree_hash, tree_of, IsRoot, fact_digests}
+use Rattle.cadf_evidence.proofs.Common.{◌<◌, ◌^◌, List, [], ◌∷◌, length, sym, subst, arith, AllByRecursion, Text, Contents, rising, sha_digest, each_digest, rising_set, digest_of_some, IsDigest, atom_digest, Digests, digests_of, AreDigests, IsSet, root, root_text, tree_hash, tree_of, IsRoot, fact_digests, AreRisingDigests}
 use Rattle.cadf_tree.specs.Tree as tree
 
 tree_digests : (ds : List Text) → AllByRecursion IsDigest ds → AllByRecursion tree.IsDigest ds
@@ -8,6 +8,9 @@ tree_digests (d ∷ ds) each = (record { size = each.0.size; bytes = each.0.byte
 
 pub digests_are_set : (s : Digests) → AreDigests s → IsSet (rising s)
 digests_are_set s are = record { digests = tree_digests (rising s) (each_digest s are); rising = rising_set s }
+
+pub listed_are_set : (ds : List Text) → AreRisingDigests ds → IsSet ds
+listed_are_set ds are = record { digests = tree_digests ds are.0; rising = are.1 }
 
 pub facts_are_set : (held : Contents) → IsSet (fact_digests held)
 facts_are_set held = digests_are_set (digests_of atom_digest held) (λ d h. let x = digest_of_some atom_digest held d h in subst IsDigest (sym x.2) (sha_digest _))

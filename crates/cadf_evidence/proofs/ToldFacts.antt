@@ -1,6 +1,7 @@
 -- Of facts that are told, each is in the sealed set or not, as was asked.
-use Rattle.cadf_evidence.proofs.Common.{◌≡◌, ◌∙◌, ℕ, ◌+◌, Bool, true, false, List, [], ◌∷◌, map, length, Option, Some, None, Ok, refl, sym, ap, subst, inl, inr, true≢false, arith, not, common_steps, false_from_ne_true, bytes_eq-Decides, AllByRecursion, list_any, option_or, ◌||◌, Text, Texts, Contents, Has, Listed, rising, text_same, text_total, texts_same, texts_total, listed-rising, rising-listed, digest_of_some, known_digest, atom_digest, Digests, digests_of, is_text, tree_fault, HasHash, HaveHashes, PresenceIsSound, member, state, Both, Added, Gone, Part, Node, Hash, Leaf, AreParts, FactsAreSo, fact_digests, fact_fault, first_fault, tree_refusal, text_unless, VerifyFault, TreeFault}
+use Rattle.cadf_evidence.proofs.Common.{◌≡◌, ◌∙◌, ℕ, ◌+◌, Bool, true, false, List, [], ◌∷◌, map, Option, Some, None, Ok, refl, sym, subst, inl, inr, true≢false, arith, not, common_steps, false_from_ne_true, bytes_eq-Decides, AllByRecursion, option_or, Text, Texts, Contents, Has, Listed, rising, text_same, text_total, texts_same, texts_total, listed-rising, rising-listed, digest_of_some, known_digest, atom_digest, Digests, digests_of, is_text, tree_fault, HaveHashes, PresenceIsSound, member, state, Part, Node, Hash, Leaf, AreParts, FactsAreSo, fact_digests, fact_fault, first_fault, tree_refusal, text_unless, VerifyFault, TreeFault}
 use Rattle.cadf_join.specs.Sets as set
+use Rattle.cadf_evidence.proofs.AskedDigests.{any_listed, listed_any}
 use Rattle.cadf_evidence.proofs.SetsOfDigests.{facts_are_set}
 
 -- ---- parts that were read
@@ -17,20 +18,10 @@ same_text : (x y : Text) → is_text x y ≡ true → x ≡ y
 same_text x y e = (bytes_eq-Decides x y).0 e
 
 pub member_listed : (f : Text) (ds : List Text) → member f ds ≡ true → Listed f ds
-member_listed f [] e = absurd (true≢false (sym e))
-member_listed f (d ∷ ds) e = by (is_text d f) refl e (λ k. member_listed f ds k)
-  where
-    by : (b : Bool) → is_text d f ≡ b → (b || member f ds) ≡ true → (member f ds ≡ true → Listed f ds) → Listed f (d ∷ ds)
-    by true is k more = inl (sym (same_text d f is))
-    by false is k more = inr (more k)
-
-or_right : (a b : Bool) → b ≡ true → (a || b) ≡ true
-or_right a b e = grind (arith, common_steps)
+member_listed f ds e = let m = any_listed (λ d. is_text d f) ds e in subst (λ x. Listed x ds) (same_text m.0 f m.2) m.1
 
 pub listed_member : (f : Text) (ds : List Text) → Listed f ds → member f ds ≡ true
-listed_member f [] l = absurd l
-listed_member f (d ∷ ds) (inl e) = ap (λ b. b || member f ds) (ap (λ x. is_text d x) e ∙ (bytes_eq-Decides d d).1 refl)
-listed_member f (d ∷ ds) (inr l) = or_right (is_text d f) (member f ds) (listed_member f ds l)
+listed_member f ds l = listed_any (λ d. is_text d f) ds f l ((bytes_eq-Decides f f).1 refl)
 
 member_has : (s : Digests) (f : Text) (b : Bool) → member f (rising s) ≡ b → set.contains s f ≡ b
 member_has s f true e = listed-rising text_total text_same s f (member_listed f (rising s) e)

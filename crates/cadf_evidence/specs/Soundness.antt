@@ -2,18 +2,20 @@
 --     HasFacts s held      the first root of the seal is that of the facts of this set
 --     IsHashedIn held p x  the text x is hashed for this root, or for that of the proof's parts
 --     FactsAreSo           of facts that are told, each is in the sealed set or not, as was asked
---     Differ l old new     the sets old and new differ by some digests alone, and those that went are listed
+--     Differ t l old new   the sets old and new differ by some digests alone, and those that went are listed
 --     IsGrown a b l text   so do the facts of both sets and their keys, and the text says how many facts
 --     GrowthIsSo           what is told of two seals is so
+--     NothingGoesUnlisted  then each fact and each key of the earlier set is in the later one or in the list
 --     unchanged_parts ds   the parts that show that the set ds didn't change
 --     EqualSealsAreOfOneSet   equal seals are of one log and one set of facts
-use Rattle.std.specs.Prelude.{◌≡◌, ◌⊎◌, Bool, true, not, List, [], ◌∷◌, ℕ, length, Option, unwrap_or, Ok}
+use Rattle.std.specs.Prelude.{◌≡◌, ◌⊎◌, Bool, true, not, ◌||◌, List, [], ◌∷◌, ℕ, length, Option, unwrap_or, Ok}
 use Rattle.std.specs.List.{AllByRecursion}
 use Rattle.cadf_join.specs.Contents.{Text, Texts, Contents, Has}
 use Rattle.cadf_join.specs.Sets as set
 use Rattle.cadf_join.specs.Sets.{rising}
 use Rattle.cadf_line.specs.Digest.{atom_digest}
 use Rattle.cadf_key.specs.Keys.{keys_of}
+use Rattle.cadf_listed.specs.ListFile.{ListedModel}
 use Rattle.cadf_line.specs.Missing.{Digests, NoCollision, digests_of}
 use Rattle.cadf_set.specs.Replica.{ReplicaModel}
 use Rattle.cadf_tree.specs.Tree.{root, tree_hash, tree_of}
@@ -25,6 +27,8 @@ use Rattle.cadf_evidence.specs.Growth.{grown, growth_text, is_listed}
 use Rattle.cadf_evidence.specs.ProofFile.{ProofModel, IsProof}
 use Rattle.cadf_evidence.specs.SealFile.{SealModel, seal_of}
 use Rattle.cadf_evidence.specs.Verified.{verified}
+use Rattle.cadf_evidence.specs.declared.growth.SealedSet.{SealedSet}
+use Rattle.cadf_evidence.specs.declared.growth.SealedSet.TheVariants.{Facts, Keys}
 
 abbrev pub fact_digests : Contents → List Text
 fact_digests held = rising (digests_of atom_digest held)
@@ -49,22 +53,30 @@ key_digests held = rising (keys_of held)
 abbrev pub given_parts : Option (List Part) → List Part
 given_parts o = unwrap_or o []
 
-pub record Differ (list : Option Digests) (old new : List Text) : Type 0 where
+pub record Differ (t : SealedSet) (list : Option ListedModel) (old new : List Text) : Type 0 where
   pub added : List Text
   pub gone : List Text
   pub difference : IsDifference old new added gone
-  pub listed : AllByRecursion (λ d. is_listed list d ≡ true) gone
+  pub listed : AllByRecursion (λ d. is_listed t list d ≡ true) gone
 
-pub record IsGrown (a b : ReplicaModel) (list : Option Digests) (text : List ℕ) : Type 0 where
-  pub facts : Differ list (fact_digests a.atoms) (fact_digests b.atoms)
-  pub keys : Differ list (key_digests a.atoms) (key_digests b.atoms)
+pub record IsGrown (a b : ReplicaModel) (list : Option ListedModel) (text : List ℕ) : Type 0 where
+  pub facts : Differ Facts list (fact_digests a.atoms) (fact_digests b.atoms)
+  pub keys : Differ Keys list (key_digests a.atoms) (key_digests b.atoms)
   pub told : text ≡ growth_text list (record { added = length facts.added; gone = length facts.gone })
 
 abbrev pub GrowthIsSo : Type 0
-GrowthIsSo = (a b : ReplicaModel) (p : ProofModel) (list : Option Digests) (text : List ℕ) → IsProof p
+GrowthIsSo = (a b : ReplicaModel) (p : ProofModel) (list : Option ListedModel) (text : List ℕ) → IsProof p
     → DoNotCollide (IsHashedForBoth (fact_digests a.atoms) (fact_digests b.atoms) p.facts)
     → DoNotCollide (IsHashedForBoth (key_digests a.atoms) (key_digests b.atoms) (given_parts p.keys))
     → grown (seal_of a) (seal_of b) p list ≡ Ok text → IsGrown a b list text
+
+abbrev pub StayOrAreListed : SealedSet → Option ListedModel → Digests → Digests → Type 0
+StayOrAreListed t list old new = (d : Text) → set.contains old d ≡ true → (set.contains new d || is_listed t list d) ≡ true
+
+abbrev pub NothingGoesUnlisted : Type 0
+NothingGoesUnlisted = (a b : ReplicaModel) (list : Option ListedModel) (text : List ℕ) → IsGrown a b list text
+    → StayOrAreListed Facts list (digests_of atom_digest a.atoms) (digests_of atom_digest b.atoms)
+    × StayOrAreListed Keys list (keys_of a.atoms) (keys_of b.atoms)
 
 -- ---- equal seals
 

@@ -1,13 +1,13 @@
 //! How one sealed set came of another, to a reader with both seals and a proof.
 ghost use Rattle.std.specs.Prelude.{◌≡◌, Ok, Err, IfOk, IfErr, option_map};
-ghost use Rattle.cadf_evidence.specs.Growth.{growth_of, keys_growth, error_of, is_listed, unlisted, gone_fault, all_gone_fault, log_fault, growth_text, later_fault, grown, GrowthFaultIs};
+ghost use Rattle.cadf_evidence.specs.Growth.{growth_of, keys_growth, error_of, is_listed, unlisted, gone_fault, all_gone_fault, list_fault, log_fault, growth_text, later_fault, grown, GrowthFaultIs};
 
 use crate::fault::{ProofFault, input_of, proof_fault};
 use crate::proof::Proof;
 use crate::seal::Seal;
 use cadf_event::Name;
 use cadf_json::Memory;
-use cadf_set::Inventory;
+use cadf_listed::{Erased, Listed};
 use cadf_tree::{Growth, Kind, Part, Root, grew};
 use std::alloc::Global;
 use std::fmt;
@@ -40,7 +40,7 @@ impl fmt::Display for Digest {
 }
 
 /// Why a proof, which is input 3, doesn't show how the set of input 2, a seal, came of that of input 1, an earlier one; or
-/// what went.
+/// what went and isn't in the list, which is input 4 if there is one.
 #[derive(Clone, Copy, Debug, Drop, PartialEq, Eq, Error)]
 pub enum GrowthFault {
     /// The input of that number names another log than the first.
@@ -93,23 +93,24 @@ fn keys_fault(earlier: &Root, later: &Root, proof: &Proof) -> Option<GrowthFault
     }
 }
 
-/// Returns whether the list has the digest; without a list it has none.
-fn is_listed(list: Option<&Inventory>, digest: &[u8; 32]) -> bool
-    ensures { result ≡ is_listed (option_map (λ l. l.now.digests) list.entry) digest.now }
+/// Returns whether the list has the fact or the key of the digest; without a list none is listed.
+fn is_listed(set: SealedSet, list: Option<&Listed<Erased>>, digest: &[u8; 32]) -> bool
+    ensures { result ≡ is_listed set (option_map (λ l. l.now) list.entry) digest.now }
 {
-    match list {
-        None => false,
-        Some(list) => list.has(digest),
+    match (set, list) {
+        (_, None) => false,
+        (SealedSet::Facts, Some(list)) => list.has_fact(digest),
+        (SealedSet::Keys, Some(list)) => list.has_key(digest),
     }
 }
 
 /// Returns the digest of a leaf that went and isn't listed.
-fn unlisted(list: Option<&Inventory>, part: &Part) -> Option<[u8; 32]>
-    ensures { result ≡ unlisted (option_map (λ l. l.now.digests) list.entry) part.now }
+fn unlisted(set: SealedSet, list: Option<&Listed<Erased>>, part: &Part) -> Option<[u8; 32]>
+    ensures { result ≡ unlisted set (option_map (λ l. l.now) list.entry) part.now }
 {
     match part {
         Part::Leaf(Kind::Gone, digest) => {
-            if is_listed(list, digest) {
+            if is_listed(set, list, digest) {
                 None
             } else {
                 Some(*digest)
@@ -120,11 +121,11 @@ fn unlisted(list: Option<&Inventory>, part: &Part) -> Option<[u8; 32]>
 }
 
 /// Returns the first leaf that went and isn't listed.
-fn gone_fault(set: SealedSet, list: Option<&Inventory>, parts: &[Part]) -> Option<GrowthFault>
-    ensures { result ≡ gone_fault set (option_map (λ l. l.now.digests) list.entry) parts.now }
+fn gone_fault(set: SealedSet, list: Option<&Listed<Erased>>, parts: &[Part]) -> Option<GrowthFault>
+    ensures { result ≡ gone_fault set (option_map (λ l. l.now) list.entry) parts.now }
 {
     for part in parts {
-        if let Some(bytes) = unlisted(list, part) {
+        if let Some(bytes) = unlisted(set, list, part) {
             return Some(GrowthFault::Gone(set, Digest { bytes }));
         }
     }
@@ -132,8 +133,8 @@ fn gone_fault(set: SealedSet, list: Option<&Inventory>, parts: &[Part]) -> Optio
 }
 
 /// Returns the first leaf of either tree that went and isn't listed.
-fn all_gone_fault(list: Option<&Inventory>, proof: &Proof) -> Option<GrowthFault>
-    ensures { result ≡ all_gone_fault (option_map (λ l. l.now.digests) list.entry) proof.now }
+fn all_gone_fault(list: Option<&Listed<Erased>>, proof: &Proof) -> Option<GrowthFault>
+    ensures { result ≡ all_gone_fault (option_map (λ l. l.now) list.entry) proof.now }
 {
     if let Some(fault) = gone_fault(SealedSet::Facts, list, proof.facts()) {
         return Some(fault);
@@ -144,9 +145,24 @@ fn all_gone_fault(list: Option<&Inventory>, proof: &Proof) -> Option<GrowthFault
     }
 }
 
+/// Returns the list, input 4, if it is of another log than the first input.
+fn list_fault(earlier: &Name, list: Option<&Listed<Erased>>) -> Option<GrowthFault>
+    ensures { result ≡ list_fault earlier.now (option_map (λ l. l.now) list.entry) }
+{
+    match list {
+        Some(list) if list.log().as_str() != earlier.as_str() => Some(GrowthFault::OtherLog(4)),
+        _ => None,
+    }
+}
+
 /// Returns the input that is of another log than the first one.
-fn log_fault(earlier: &Name, later: &Name, proof: &Name) -> Option<GrowthFault>
-    ensures { result ≡ log_fault earlier.now later.now proof.now }
+fn log_fault(
+    earlier: &Name,
+    later: &Name,
+    proof: &Name,
+    list: Option<&Listed<Erased>>,
+) -> Option<GrowthFault>
+    ensures { result ≡ log_fault earlier.now later.now proof.now (option_map (λ l. l.now) list.entry) }
 {
     if later.as_str() != earlier.as_str() {
         return Some(GrowthFault::OtherLog(2));
@@ -154,12 +170,16 @@ fn log_fault(earlier: &Name, later: &Name, proof: &Name) -> Option<GrowthFault>
     if proof.as_str() != earlier.as_str() {
         return Some(GrowthFault::OtherLog(3));
     }
-    None
+    list_fault(earlier, list)
 }
 
 /// Makes the text that says how many facts were added, and, with a list, how many were erased.
-fn growth_text(alloc: Global, list: Option<&Inventory>, growth: &Growth) -> Result<Vec<u8>, Memory>
-    ensures { IfOk result (λ text. text.items ≡ growth_text (option_map (λ l. l.now.digests) list.entry) growth.now) }
+fn growth_text(
+    alloc: Global,
+    list: Option<&Listed<Erased>>,
+    growth: &Growth,
+) -> Result<Vec<u8>, Memory>
+    ensures { IfOk result (λ text. text.items ≡ growth_text (option_map (λ l. l.now) list.entry) growth.now) }
 {
     let added = growth.added;
     let gone = growth.gone;
@@ -175,9 +195,9 @@ fn later_fault(
     earlier: &Seal,
     later: &Seal,
     proof: &Proof,
-    list: Option<&Inventory>,
+    list: Option<&Listed<Erased>>,
 ) -> Option<GrowthFault>
-    ensures { result ≡ later_fault earlier.now later.now proof.now (option_map (λ l. l.now.digests) list.entry) }
+    ensures { result ≡ later_fault earlier.now later.now proof.now (option_map (λ l. l.now) list.entry) }
 {
     match keys_fault(earlier.keys(), later.keys(), proof) {
         Some(fault) => Some(fault),
@@ -186,18 +206,18 @@ fn later_fault(
 }
 
 /// Judges, by a proof under two seals, how the later set came of the earlier one: what was added, and that nothing is gone;
-/// with a list of digests, nothing but these. Returns a line of text. `Err`: the first fault. The list's log isn't compared.
+/// with a list, nothing but what it has. Returns a line of text. `Err`: the first fault.
 pub fn grown(
     alloc: Global,
     earlier: &Seal,
     later: &Seal,
     proof: &Proof,
-    list: Option<&Inventory>,
+    list: Option<&Listed<Erased>>,
 ) -> Result<Vec<u8>, GrowthFault>
-    ensures ok { IfOk result (λ text. grown earlier.now later.now proof.now (option_map (λ l. l.now.digests) list.entry) ≡ Ok text.items) }
-    ensures err { IfErr result (λ e. GrowthFaultIs e (grown earlier.now later.now proof.now (option_map (λ l. l.now.digests) list.entry))) }
+    ensures ok { IfOk result (λ text. grown earlier.now later.now proof.now (option_map (λ l. l.now) list.entry) ≡ Ok text.items) }
+    ensures err { IfErr result (λ e. GrowthFaultIs e (grown earlier.now later.now proof.now (option_map (λ l. l.now) list.entry))) }
 {
-    if let Some(fault) = log_fault(earlier.log(), later.log(), proof.log()) {
+    if let Some(fault) = log_fault(earlier.log(), later.log(), proof.log(), list) {
         return Err(fault);
     }
     let growth = growth_of(

@@ -1,14 +1,15 @@
 //! Laws over the definitions alone. Each function's contract is a theorem, and its body is empty.
 ghost use Rattle.std.specs.Prelude.{◌≡◌, ◌≤◌, ℕ, length, false, Ok};
-ghost use Rattle.cadf_evidence.specs.Made.{FactsProofIsTold, GrowthProofIsTold};
+ghost use Rattle.cadf_evidence.specs.Made.{FactsProofIsTold, GrowthProofIsTold, ListedGrowthIsGrowth};
 ghost use Rattle.cadf_evidence.specs.ProofFile.{IsProof, ProofFileIsInjective, proof_file};
 ghost use Rattle.cadf_evidence.specs.ProofVerdict.{proof_verdict};
 ghost use Rattle.cadf_evidence.specs.SealFile.{IsSeal, SealFileIsInjective, seal_file};
 ghost use Rattle.cadf_evidence.specs.SealVerdict.{seal_verdict};
-ghost use Rattle.cadf_evidence.specs.Soundness.{FactsAreSo, GrowthIsSo, EqualSealsAreOfOneSet};
+ghost use Rattle.cadf_evidence.specs.Soundness.{FactsAreSo, GrowthIsSo, NothingGoesUnlisted, EqualSealsAreOfOneSet};
 
 use crate::proof::Proof;
 use crate::seal::Seal;
+use cadf_listed::list_over_sets;
 use cadf_tree::{growth_is_complete, growth_is_sound, presence_is_complete, presence_is_sound};
 
 /// States that a seal's file is injective: seals with equal files are equal.
@@ -52,6 +53,11 @@ pub fn told_growth_is_so()
     growth_is_sound();
 }
 
+/// States that if it is told how a set grew, each fact and each key of the earlier set is in the later one or in the list.
+pub fn nothing_goes_unlisted()
+    ensures { NothingGoesUnlisted }
+{}
+
 /// States that equal seals are of one log and one set of facts, if what is hashed doesn't collide.
 pub fn equal_seals_are_of_one_set()
     ensures { EqualSealsAreOfOneSet }
@@ -67,4 +73,11 @@ pub fn made_proofs_are_told()
 {
     presence_is_complete();
     growth_is_complete();
+}
+
+/// States that the proof of growth that is made from the sealed list of a replica is that of both replicas.
+pub fn listed_growth_is_growth()
+    ensures { ListedGrowthIsGrowth }
+{
+    list_over_sets();
 }

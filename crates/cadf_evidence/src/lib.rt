@@ -17,9 +17,11 @@ mod verify;
 pub use fault::ProofFault;
 pub use growth::{Digest, GrowthFault, SealedSet, grown};
 pub use laws::{
-    equal_seals_are_of_one_set, made_proofs_are_told, proof_file_is_injective, proof_is_read_back,
-    seal_file_is_injective, seal_is_read_back, told_facts_are_so, told_growth_is_so,
+    equal_seals_are_of_one_set, listed_growth_is_growth, made_proofs_are_told,
+    nothing_goes_unlisted, proof_file_is_injective, proof_is_read_back, seal_file_is_injective,
+    seal_is_read_back, told_facts_are_so, told_growth_is_so,
 };
+pub use made::sealed_of;
 pub use proof::Proof;
 pub use seal::Seal;
 pub use telling::FactLines;

@@ -1,5 +1,5 @@
 -- What comes of a run of a request on bytes in memory: the text that it hands out in a buffer, or why it gave up.
-use Rattle.cadf_memory.proofs.Common.{arith, ◌≡◌, ◌⊎◌, inl, inr, ℕ, List, [], ◌∷◌, ◌++◌, length, map, Option, Some, Result, Ok, Err, IfOk, IfErr, MatchResult, refl, sym, ap, ◌∙◌, subst, length-map, Appends, Sink, Text, ToolFault, ReadFault, WriteFault, Request, fault_stage, SourceState, NoneFailed, task, IsFirstFaultBy, IsExpectedOfBy, IsWritten, IsAnswer, IsRunBy, Buffer, CadfBytes, SliceSource, buffer_name, buffer_before, buffer_text, handed, IsHandedOut, IsMadeFor, IsFirstFor, fault_in_memory_of, bytes_in, unread, slice_state}
+use Rattle.cadf_memory.proofs.Common.{arith, ◌≡◌, ◌⊎◌, inl, inr, ℕ, true, false, List, [], ◌∷◌, ◌++◌, length, map, Option, Some, Result, Ok, Err, IfOk, IfErr, MatchResult, refl, sym, ap, ◌∙◌, subst, length-map, Appends, Sink, Text, ToolFault, ReadFault, WriteFault, Request, fault_stage, SourceState, NoneFailed, task, IsFirstFaultBy, IsExpectedOfBy, IsWritten, IsAnswer, IsRunBy, Buffer, CadfBytes, SliceSource, buffer_name, buffer_before, buffer_text, handed, IsHandedOut, IsMadeFor, IsFirstFor, fault_in_memory_of, bytes_in, unread, slice_state}
 use Rattle.cadf_tool.specs.declared.fault.ToolFault.TheVariants.{Memory}
 use Rattle.cadf_tool.specs.declared.request.Request.TheVariants as ask
 use Rattle.cadf_memory.proofs.Framed.{frame, name_kept, before_kept, text_added}
@@ -21,6 +21,10 @@ untouched ask.MissingBy old = (refl, refl)
 untouched ask.MissingBySketch old = (refl, refl)
 untouched ask.Prove old = (refl, refl)
 untouched (ask.Verify absent) old = (refl, (refl, refl))
+untouched ask.Growth old = (refl, refl)
+untouched (ask.Grew false) old = ((refl, (refl, refl)), tt)
+untouched (ask.Grew true) old = ((refl, (refl, refl)), refl)
+untouched ask.Omit old = (refl, refl)
 untouched _ old = refl
 
 -- there may be no memory before a source is read

@@ -6,7 +6,7 @@
 use Rattle.std.specs.Prelude.{◌≡◌, ℕ, Bool, true, false, List, map, Ok}
 use Rattle.cadf_join.specs.Contents.{Text}
 use Rattle.cadf_tool.specs.declared.fault.ToolFault.{ToolFault}
-use Rattle.cadf_tool.specs.declared.fault.ToolFault.TheVariants.{Input, NoLog, OtherLog, NoFacts, TooFewCells, Script, Rehearse, NoValue, Unverified}
+use Rattle.cadf_tool.specs.declared.fault.ToolFault.TheVariants.{Input, NoLog, OtherLog, NoFacts, TooFewCells, Script, Rehearse, NoValue, Unverified, Ungrown}
 use Rattle.cadf_tool.specs.declared.fault.ToolFault.TheVariants.{ReadFault, WriteFault, Memory}
 use Rattle.cadf_tool.specs.declared.request.Request.{Request}
 use Rattle.cadf_tool.specs.Faults.{fault_stage}
@@ -40,6 +40,7 @@ fault_in_memory_of (Script line) = Script line
 fault_in_memory_of (Rehearse f) = Rehearse f
 fault_in_memory_of NoValue = NoValue
 fault_in_memory_of (Unverified f) = Unverified f
+fault_in_memory_of (Ungrown f) = Ungrown f
 fault_in_memory_of (ReadFault n) = Memory
 fault_in_memory_of WriteFault = Memory
 fault_in_memory_of Memory = Memory

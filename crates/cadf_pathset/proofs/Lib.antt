@@ -22,7 +22,6 @@ pub mod Membership
 pub mod Merges
 pub mod Merging
 pub mod Narrowed
-pub mod Nexts
 pub mod Orders
 pub mod Placed
 pub mod Ranges

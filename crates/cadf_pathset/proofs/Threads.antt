@@ -10,9 +10,6 @@ place_of ls (n ∷ ns) l h = grind (arith, common_steps, take_all)
 pub self_line : (ls : List Texts) (ns : List ℕ) (l : Texts) → IsLine ls ns l → IsLine ls ns (place ls ns)
 self_line ls ns l h = subst (IsLine ls ns) (sym (place_of ls ns l h)) h
 
-pub no_line : (ls : List Texts) → IsLine ls [] []
-no_line ls = record { long = refl; held = λ i b. absurd (omega (arith, b)); stands = λ i b. absurd (omega (arith, b)) }
-
 pub last_there : (ls : List Texts) (ns : List ℕ) (l : Texts) → IsLine ls ns l → last_node ns ≤ length ls
 last_there ls [] l h = omega arith
 last_there ls (n ∷ ns) l h = h.held (length ns) (omega arith)
@@ -149,6 +146,3 @@ module _ (ls us : List Texts) (kept : take (length ls) us ≡ ls) (ns ms : List 
 
   pub put_lists : lists_at us ms ≡ lists_at ls ns ++ list_at us n ∷ []
   put_lists = ap (lists_at us) more ∙ map_more (list_at us) ns n ∙ ap (λ z. z ++ list_at us n ∷ []) (lists_kept ls us kept ns there)
-
-pub root_line : (ls : List Texts) (ns : List ℕ) → ns ≡ [] → IsLine ls ns (place ls ns)
-root_line ls ns e = subst (λ z. IsLine ls z (place ls z)) (sym e) (no_line ls)

@@ -30,6 +30,8 @@ accepted ask.MissingBy old new (ls, noted) are = let n = length old - 1 in all_o
 accepted ask.Inventory old new ls are = all_outside old new ls are
 accepted (ask.Sketch cells salt) old new ls are = all_outside old new ls are
 accepted ask.MissingBySketch old new (ls, sketch) are = let n = length old - 1 in all_outside (take n old) (take n new) ls are.0
+accepted ask.Sealed old new ls are = all_outside old new ls are
+accepted ask.Omit old new (list, ls) are = all_outside (drop 1 old) (drop 1 new) ls are.1
 accepted ask.Seal old new ls are = all_outside old new ls are
 accepted (ask.Rule letter key place) old new ls are = all_outside old new ls are
 accepted (ask.Show conflicts) old new ls are = all_outside old new ls are

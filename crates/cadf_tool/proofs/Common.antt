@@ -6,6 +6,8 @@ pub use Rattle.cadf_atom.specs.AtomSets.{IsReplicaSet}
 pub use Rattle.cadf_atom.specs.Contributions.{ARuling, Contribution, atoms, document_atoms, one_atom, taken, union_all}
 pub use Rattle.cadf_atom.specs.Rulings.{ruling_of}
 pub use Rattle.cadf_atom.specs.Shown.{conflict_part, log_part, only, strip, values}
+pub use Rattle.cadf_erased.proofs.LeftSets.{carrier_alike}
+pub use Rattle.cadf_erased.specs.Left.{is_left, left_of}
 pub use Rattle.cadf_event.proofs.BytesFaults.{no_bytes_fault_each, one_bytes_fault_each}
 pub use Rattle.cadf_event.proofs.KnownDocument.{known_document}
 pub use Rattle.cadf_event.proofs.NoFault.{clash}
@@ -15,8 +17,11 @@ pub use Rattle.cadf_event.specs.Known.{DocumentInvariant, IsKnownLog, IsNameText
 pub use Rattle.cadf_event.specs.LogName.{is_name_text}
 pub use Rattle.cadf_event.specs.declared.document_bytes.DocumentBytesFault.{DocumentBytesFault}
 pub use Rattle.cadf_event.specs.declared.document_bytes.DocumentBytesFault.TheVariants.{Document as BytesDocument, Json as BytesJson, Memory as BytesMemory}
+pub use Rattle.cadf_evidence.specs.Growth.{GrowthFaultIs, grown}
 pub use Rattle.cadf_evidence.specs.ProofFile.{ProofModel}
 pub use Rattle.cadf_evidence.specs.SealFile.{SealModel, seal_file}
+pub use Rattle.cadf_evidence.specs.declared.growth.GrowthFault.{GrowthFault}
+pub use Rattle.cadf_evidence.specs.declared.growth.GrowthFault.TheVariants.{Gone, Proof}
 pub use Rattle.cadf_file.proofs.FileLemmas.{file-of-one, formats_apart}
 pub use Rattle.cadf_file.proofs.FileTwoLemmas.{file-two-tells}
 pub use Rattle.cadf_file.proofs.RefusedLemmas.{accepted_whole, behind_all, decided_is, decided_stays, err, failed_alone, left_to_failed, refused_verdict, too_many}
@@ -57,6 +62,7 @@ pub use Rattle.cadf_linefile.specs.Verdict.{digest_line}
 pub use Rattle.cadf_linefile.specs.declared.fault.FileFault.{FileFault}
 pub use Rattle.cadf_linefile.specs.declared.fault.FileFault.TheVariants.{ReadFault as FileReadFault, TooLarge as FileTooLarge, Trailing}
 pub use Rattle.cadf_linefile.specs.declared.file_feed.TheConstants.{FILE_LIMIT}
+pub use Rattle.cadf_listed.specs.ListFile.{ListedModel}
 pub use Rattle.cadf_log.proofs.OneDocument.{one_document_each}
 pub use Rattle.cadf_log.proofs.TwoTexts.{conflicts_have_one, conflicts_read as list_is_read, log_again, log_read as log_is_read, log_read, log_text_has_one, one_value, texts_tell}
 pub use Rattle.cadf_log.specs.ReadBack.{IsConflictTextOf, IsLogTextOf}
@@ -86,19 +92,20 @@ pub use Rattle.cadf_split.specs.Split.{noted_lines, part_line, part_lines, repli
 pub use Rattle.cadf_split.specs.Windows.{key, part, part_keys, shared_key, window, window_of}
 pub use Rattle.cadf_split.specs.declared.unit.Unit.{Unit}
 pub use Rattle.cadf_tool.specs.Exchange.{AreCovered, AreExact, AreRead, AreSources, AreUnforgotten, ByFiles, ByInventory, BySketch, Delta, Derivation, Empty, End, External, File, Files, GivesFile, HaveSameExternalInputs, HoldsAtMost, HoldsExactly, IsByCarrier, IsCovered, IsDeltaOf, IsDerived, IsExact, IsExchange, IsInventoryOf, IsInventoryReadOf, IsOfRun, IsOutputOf, IsReadOf, IsResult, IsSketchOf, IsSketchReadOf, IsTelling, IsUnforgotten, Joined, Kept, Means, Ruled, all_inputs, all_solid, brought, brought_by, contribution_of, external_inputs, external_inputs_of, externals, files_of, first_log, is_in_part, kept, log_of, parts, solid}
-pub use Rattle.cadf_tool.specs.Faults.{FaultStage, OutOfMemoryStage, Reading, Working, Writing, fault_stage}
+pub use Rattle.cadf_tool.specs.Faults.{FaultStage, OutOfMemoryStage, Reading, Working, Writing, fault_stage, of_growth}
 pub use Rattle.cadf_tool.specs.Folders.{AreFilesAfter, Begun, Exchanged, Folder, HasParts, IsExchanged, IsFolderAfter, IsFolderOf, IsSent, IsTaken, Took, all_files, and_files, arrived}
+pub use Rattle.cadf_tool.specs.Grew.{growth_line, of_grown}
 pub use Rattle.cadf_tool.specs.Input.{Gives, GivesAll, IsDocumentInput, IsDocumentOf, IsInput, IsInputWithin, IsParsedAsJson, IsWithinLimit, is_replica_file}
 pub use Rattle.cadf_tool.specs.InputFault.{IsBytesFault, IsBytesFaultWithin, IsCounted, IsFileRefusal, IsLoadFault, IsLoadFaultWithin, IsNoDocument, IsOfFile, IsOneTooMany, IsTooLarge, RefusesFile, failure_of, is_refusal, of_document_bytes, of_file}
 pub use Rattle.cadf_tool.specs.Inputs.{AreReadWithin, IsRefusedAs, NoneFailed, SourceState, source_state}
-pub use Rattle.cadf_tool.specs.Join.{IsOnOk, first_named, is_other, join_from, join_in, join_of, log_of_join, of_union, on_ok, other_log, union_of, unless_other}
+pub use Rattle.cadf_tool.specs.Join.{IsOnOk, first_named, is_other, join_from, join_in, join_of, log_of_join, of_union, on_ok, other_log, union_of, unless_other, with_union}
 pub use Rattle.cadf_tool.specs.JoinState.{IsJoinState, JoinsNext, log_joined}
+pub use Rattle.cadf_tool.specs.Listed.{left_file, left_for, sealed_file, sealed_model_of}
 pub use Rattle.cadf_tool.specs.Missing.{delta_between, if_named, missing_of, part_of_unions, under_one_log, under_one_log_at}
 pub use Rattle.cadf_tool.specs.MissingBy.{IsMissingBy, IsPartAgainst, inventory_model_of, inventory_model_under, missing_by_at, missing_by_of, part_by, part_by_union}
-pub use Rattle.cadf_tool.specs.ModelInput.{inventory_spec, model_spec, proof_spec, seal_spec, sketch_spec}
-pub use Rattle.cadf_tool.specs.Prove.{proof_for}
+pub use Rattle.cadf_tool.specs.ModelInput.{erased_spec, inventory_spec, model_spec, proof_spec, seal_spec, sketch_spec}
 pub use Rattle.cadf_tool.specs.Rehearse.{IsScriptJudged, bytes_spec, final_sites, played_in, script_spec, turns_of}
-pub use Rattle.cadf_tool.specs.Request.{IsRequestRun, and_last, and_one, first_state, in_two, one_and_others, seal_facts_proof, task}
+pub use Rattle.cadf_tool.specs.Request.{IsRequestRun, and_last, and_one, first_and_others, first_state, in_two, list_if, task, three}
 pub use Rattle.cadf_tool.specs.Requested.{AreAccepted, AreOutside, IsAnswered}
 pub use Rattle.cadf_tool.specs.Rule.{ruled_in, ruled_of, ruling_at, ruling_for, ruling_on, value_at, with_ruling}
 pub use Rattle.cadf_tool.specs.Run.{AreLoaded, InputSpec, IsExpected, IsExpectedBy, IsExpectedOfBy, IsFirstFault, IsFirstFaultBy, IsReadAs, IsReadWithin, IsRefusedAt, IsRefusedFirst, IsRun, IsRunBy, IsToldBy, IsUnread, IsValueOf, IsWorkFaultBy, IsWorked, IsWorkedBy, SourceTransition, Sources, all, all_from, both, input_spec, inputs_from, one, transition_of, two, with_number}
@@ -120,7 +127,7 @@ pub use Rattle.cadf_tool.specs.declared.join_state.JoinState.TheVariants.{Other,
 pub use Rattle.cadf_tool.specs.declared.request.Request.{Request}
 pub use Rattle.cadf_tool.specs.laws.Engines.{IsOfReplica, of_inventory, of_replica, of_ruled}
 pub use Rattle.sha2.specs.Sha256.{sha256}
-pub use Rattle.std.proofs.Common.{Bool, Contains, Err, Global, IfErr, IfOk, IfSome, IsErrAnd, List, MatchResult, None, Ok, OnOk, Option, Result, Some, String, [], ap, append-nil, arith, codes, cond, drop, encode_utf8, false, get_or, inl, inr, length, length-append, length-take, map, min, nat_lt, refl, rules, set, slice_get, string_bytes, subst, suc, sym, take, true, true≢false, unwrap_or, zero, ℕ, ◌++◌, ◌+◌, ◌-◌, ◌<◌, ◌↔◌, ◌∙◌, ◌∷◌, ◌≡◌, ◌≢◌, ◌≤◌, ◌⊎◌}
+pub use Rattle.std.proofs.Common.{Bool, Contains, Err, Global, IfErr, IfOk, IfSome, IsErrAnd, List, MatchResult, None, Ok, OnOk, Option, Result, Some, String, [], ap, append-nil, arith, codes, cond, drop, encode_utf8, false, get_or, if◌then◌else◌, inl, inr, length, length-append, length-take, map, min, nat_lt, refl, rules, set, slice_get, string_bytes, subst, suc, sym, take, true, true≢false, unwrap_or, zero, ℕ, ◌++◌, ◌+◌, ◌-◌, ◌<◌, ◌↔◌, ◌∙◌, ◌∷◌, ◌≡◌, ◌≢◌, ◌≤◌, ◌⊎◌}
 pub use Rattle.std.proofs.KnownBytes.{Consumes-trans, Consumes-whole}
 pub use Rattle.std.proofs.lemmas.Bool.{cases_lt}
 pub use Rattle.std.proofs.lemmas.Grind.{common_steps, flat_map-append}

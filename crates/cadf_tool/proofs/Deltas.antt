@@ -18,7 +18,7 @@ renumbered log n m (l ∷ ls) e = by (is_other log (log_named l)) (renumbered lo
     by true rest e = absurd (cc)
     by false rest e = rest e
 
-from_one : (n : ℕ) (given : Option Text) (ls : List Loaded) (k : ReplicaModel) → join_from n given ls ≡ Ok k → join_of given ls ≡ Ok k
+pub from_one : (n : ℕ) (given : Option Text) (ls : List Loaded) (k : ReplicaModel) → join_from n given ls ≡ Ok k → join_of given ls ≡ Ok k
 from_one n given ls k e =
     let u = united_is n given ls k e in is_united 1 given ls k u.log (renumbered k.log n 1 ls u.one_log) u.atoms
 

@@ -26,6 +26,7 @@ pub mod Rehearsals
 pub mod RuledFiles
 pub mod RulingAdded
 pub mod Runs
+pub mod SealedGrowth
 pub mod ShownAgain
 pub mod SiteLines
 pub mod SketchParts

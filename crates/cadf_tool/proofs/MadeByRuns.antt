@@ -1,7 +1,8 @@
 -- What engines write for derived files.
-use Rattle.cadf_tool.proofs.Common.{◌≡◌, ◌+◌, ◌-◌, ℕ, List, ◌++◌, take, drop, length, encode_utf8, Option, None, Some, Ok, Err, Result, refl, ap, ◌∙◌, subst, Appends, Sink, Text, inventory_file, seal_file, InventoryModel, ReplicaModel, sketch_file, Loaded, Replica, ToolFault, Request, replica_model_of, SourceState, inventory_spec, sketch_spec, Sources, AreLoaded, IsExpectedOfBy, IsRunBy, task, first_state, IsAnswered, seal_model_of, shown_text, checked_text, AreAsked, sketch_model_of, join_of, on_ok, of_union, inventory_model_of, ruling_on, ruling_for, ruled_of, IsTextOf, Ruled, Files, IsResult, AreRead, IsOutputOf, IsInventoryOf, IsSketchOf, AreSources}
+use Rattle.cadf_tool.proofs.Common.{Bool, true, false, cond, not, sym, is_left, left_of, ListedModel, erased_spec, is_other, join_from, with_union, left_for, left_file, sealed_model_of, sealed_file, OtherLog, Kept, IsByCarrier, IsDerived, ◌≡◌, ◌+◌, ◌-◌, ℕ, List, ◌++◌, take, drop, length, encode_utf8, Option, None, Some, Ok, Err, Result, refl, ap, ◌∙◌, subst, Appends, Sink, Text, inventory_file, seal_file, InventoryModel, ReplicaModel, sketch_file, Loaded, Replica, ToolFault, Request, replica_model_of, SourceState, inventory_spec, sketch_spec, Sources, AreLoaded, IsExpectedOfBy, IsRunBy, task, first_state, IsAnswered, seal_model_of, shown_text, checked_text, AreAsked, sketch_model_of, join_of, on_ok, of_union, inventory_model_of, ruling_on, ruling_for, ruled_of, IsTextOf, Ruled, Files, IsResult, AreRead, IsOutputOf, IsInventoryOf, IsSketchOf, AreSources, carrier_alike}
 use Rattle.cadf_tool.specs.Run.{IsAnswer}
 use Rattle.cadf_tool.specs.declared.request.Request.TheVariants as ask
+use Rattle.cadf_tool.proofs.Deltas.{from_one}
 use Rattle.cadf_tool.proofs.RulingAdded.{ruled_is}
 use Rattle.cadf_tool.proofs.SketchParts.{sketched_is, answer_of}
 use Rattle.cadf_tool.proofs.Unions.{ok_of}
@@ -60,6 +61,24 @@ module _ (files : Files) where
       let same : u.0 ≡ h = cc in
       (h, (ls, read, u.1 ∙ ap Ok same), is)
 
+-- ---- what an erased list leaves of files
+
+kept_beside : (list : ListedModel) (h : ReplicaModel) (pair : ListedModel × ReplicaModel) → left_for list h ≡ Ok pair → pair ≡ (list, h)
+kept_beside list h pair e = by (is_other h.log (Some list.log)) e
+  where
+    by : (b : Bool) → cond b (Err (OtherLog 1)) (Ok (list, h)) ≡ Ok pair → pair ≡ (list, h)
+    by true k = absurd (cc)
+    by false k = cc
+
+is_by_carrier : (list : ListedModel) → IsByCarrier (is_left list.names)
+is_by_carrier list q = ap not (carrier_alike list.names q)
+
+omitted : (files : Files) (list : ListedModel) (ls : List Loaded) (pair : ListedModel × ReplicaModel) → AreRead files ls
+    → with_union left_for (list, ls) ≡ Ok pair → IsDerived (Kept (is_left list.names) None files) (left_file pair)
+omitted files list ls pair read e =
+    let u = ok_of (join_from 2 None ls) (left_for list) pair e in
+    (left_of list u.0, (is_by_carrier list, ls, u.0, read, from_one 2 None ls u.0 u.1, refl), ap left_file (kept_beside list u.0 pair u.2))
+
 -- ---- what a run of a request made
 
 -- the work of an engine on the union of files
@@ -108,6 +127,10 @@ answered ask.MissingBySketch old new (ls, sketch) h are e = λ froms tos sketche
       ),
     )
 answered ask.Seal old new ls made are e = output_of seal_model_of seal_file old new ls made are e
+answered ask.Sealed old new ls made are e = output_of sealed_model_of sealed_file old new ls made are e
+answered ask.Omit old new (list, ls) pair are e = λ files bytes left given.
+    let r = read_of erased_spec (λ b. b ≡ bytes) (first_state old) (first_state new) list (bytes, left, refl) are.0 in
+    (list, sym r.1 ∙ r.2.is, omitted files list ls pair (are_read files (drop 1 old) (drop 1 new) ls given are.1) e)
 answered (ask.Rule letter key place) old new ls h are e = λ files given.
     let ruled = ruled_is_result files (encode_utf8 letter) key place ls h (are_read files old new ls given are) e in (ruled.0, (h, ruled.1, refl))
 answered (ask.Show conflicts) old new ls h are e = λ files given.

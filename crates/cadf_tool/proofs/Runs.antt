@@ -1,5 +1,5 @@
 -- The parts of a run, combined.
-use Rattle.cadf_tool.proofs.Common.{◌≡◌, ℕ, List, map, Result, Ok, Err, IfOk, IfErr, IsErrAnd, refl, sym, ap, ◌∙◌, subst, inl, inr, err_from_is_err_and, Sink, Source, Text, Loaded, ToolFault, FaultStage, Reading, Working, Writing, OutOfMemoryStage, fault_stage, source_state, AreReadWithin, IsOnOk, SourceTransition, InputSpec, Sources, with_number, both, all_from, AreLoaded, IsReadAs, IsReadWithin, IsFirstFault, IsFirstFaultBy, IsUnread, IsExpectedBy, IsWorkFaultBy, IsWorkedBy, IsRunBy, IsExpectedOfBy}
+use Rattle.cadf_tool.proofs.Common.{◌≡◌, ℕ, List, map, Result, Ok, Err, IfOk, IfErr, IsErrAnd, refl, sym, ap, ◌∙◌, subst, inl, inr, err_from_is_err_and, Sink, Source, Text, Loaded, ToolFault, FaultStage, Reading, Working, Writing, OutOfMemoryStage, fault_stage, source_state, AreReadWithin, IsOnOk, SourceTransition, InputSpec, Sources, with_number, both, all_from, AreLoaded, IsReadAs, IsReadWithin, IsFirstFault, IsFirstFaultBy, IsUnread, IsExpected, IsExpectedBy, IsWorkFaultBy, IsWorkedBy, IsRunBy, IsExpectedOfBy}
 use Rattle.cadf_tool.specs.declared.fault.ToolFault.TheVariants.{Memory}
 use Rattle.cadf_tool.specs.Run.{IsAnswer}
 use Rattle.cadf_tool.proofs.LoadedLists.{none_failed, reads_first}
@@ -95,6 +95,17 @@ module _ {A M : Type 0} {sources : Sources A} {work : A → Result M ToolFault �
   pub stopped : {W T : Type 0} {tell : M → Text} {sink : Sink W} {old : W} (result : Result T ToolFault) (fault : ToolFault)
       → IsErrAnd result (λ f. f ≡ fault) → AreStopped sources fault → IsRunBy sources work tell sink old old result
   stopped result fault passed s = unwritten result fault passed (unread fault s)
+
+-- the sources are read, or one of them is not, and no work is done
+pub read_whole : {A : Type 0} {sources : Sources A} {a : A} → AreRead sources a → IsExpected sources Ok (Ok a)
+read_whole {a = a} r = record { is = (a, r.are, refl); bounded = r.bounded }
+
+pub read_stopped : {A : Type 0} {sources : Sources A} (result : Result A ToolFault) (fault : ToolFault)
+    → IsErrAnd result (λ f. f ≡ fault) → AreStopped sources fault → IsExpected sources Ok result
+read_stopped result fault passed s =
+    let p = err_from_is_err_and result passed in
+    let is : result ≡ Err fault = p.1 ∙ ap Err p.2 in
+    rw is (record { is = s.is; bounded = s.bounded })
 
 -- there was no memory before a source was read
 pub unstarted : {A M : Type 0} {sources : Sources A} {work : A → Result M ToolFault → Type 0} (result : Result M ToolFault) (fault : ToolFault)

@@ -2,12 +2,14 @@
 use Rattle.std.specs.Prelude.{ℕ, Bool, true, false, Result, Ok, Err}
 use Rattle.cadf_json.specs.declared.transfer.OutFault.{OutFault}
 use Rattle.cadf_json.specs.declared.transfer.OutFault.TheVariants.{WriteFault as OutWriteFault, Memory as OutMemory}
+use Rattle.cadf_evidence.specs.declared.growth.GrowthFault.{GrowthFault}
+use Rattle.cadf_evidence.specs.declared.growth.GrowthFault.TheVariants as growth
 use Rattle.cadf_evidence.specs.declared.verify.VerifyFault.{VerifyFault}
 use Rattle.cadf_evidence.specs.declared.verify.VerifyFault.TheVariants as verify
 use Rattle.cadf_tool.specs.declared.input.LoadFault.{LoadFault}
 use Rattle.cadf_tool.specs.declared.input.LoadFault.TheVariants.{File, TooLarge, ReadFault, Json, Document, Memory}
 use Rattle.cadf_tool.specs.declared.fault.ToolFault.{ToolFault}
-use Rattle.cadf_tool.specs.declared.fault.ToolFault.TheVariants.{Input, NoLog, OtherLog, NoFacts, TooFewCells, Script, Rehearse, NoValue, Unverified}
+use Rattle.cadf_tool.specs.declared.fault.ToolFault.TheVariants.{Input, NoLog, OtherLog, NoFacts, TooFewCells, Script, Rehearse, NoValue, Unverified, Ungrown}
 use Rattle.cadf_tool.specs.declared.fault.ToolFault.TheVariants.{ReadFault as ReadFailed, WriteFault, Memory as OutOfMemory}
 
 -- `ReadFault` and `Memory` are the engine's own
@@ -23,6 +25,11 @@ of_load n Memory = OutOfMemory
 abbrev pub of_verify : VerifyFault → ToolFault
 of_verify verify.Memory = OutOfMemory
 of_verify fault = Unverified fault
+
+-- why a set isn't shown to come of another; `Memory` is the engine's own
+abbrev pub of_growth : GrowthFault → ToolFault
+of_growth growth.Memory = OutOfMemory
+of_growth fault = Ungrown fault
 
 -- the result of writing a text
 abbrev pub of_out : {T : Type 0} → Result T OutFault → Result T ToolFault
@@ -41,6 +48,7 @@ status_of (Script line) = 1
 status_of (Rehearse f) = 1
 status_of NoValue = 1
 status_of (Unverified f) = 1
+status_of (Ungrown f) = 1
 status_of (ReadFailed n) = 3
 status_of WriteFault = 3
 status_of OutOfMemory = 4

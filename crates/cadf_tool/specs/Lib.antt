@@ -15,6 +15,8 @@ pub mod Sketch
 pub mod Seal
 pub mod Prove
 pub mod Verify
+pub mod Listed
+pub mod Grew
 pub mod Rule
 pub mod Rehearse
 pub mod Sites

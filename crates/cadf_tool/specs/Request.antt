@@ -3,13 +3,14 @@
 --     task q              how its sources are read, what is made of them, and the text of that
 --     IsRequestRun q source old new sink before after result   the run of the request on these sources, writing to this sink, has that result
 -- Sources stand in the order in which they are read, and are counted from 1. A list of one is a run on one source.
-use Rattle.std.specs.Prelude.{◌+◌, ◌-◌, ℕ, nat_le, nat_lt, nat_eq, Bool, true, false, List, [], ◌∷◌, map, length, take, drop, None, encode_utf8, Result}
+use Rattle.std.specs.Prelude.{◌≡◌, ◌+◌, ◌-◌, ℕ, nat_le, nat_lt, nat_eq, Bool, true, false, if◌then◌else◌, List, [], ◌∷◌, map, length, take, drop, Option, None, IsSomeAnd, encode_utf8, Result}
 use Rattle.cadf_json.specs.declared.stream.Source.{Ghosts as Source}
 use Rattle.cadf_json.specs.declared.stream.Sink.{Ghosts as Sink}
 use Rattle.cadf_join.specs.Contents.{Text}
 use Rattle.cadf_inventory.specs.InventoryFile.{inventory_file}
 use Rattle.cadf_evidence.specs.ProofFile.{ProofModel, proof_file}
 use Rattle.cadf_evidence.specs.SealFile.{SealModel, seal_file}
+use Rattle.cadf_listed.specs.ListFile.{ListedModel}
 use Rattle.cadf_rehearsal.specs.declared.turn.Turn.{Turn}
 use Rattle.cadf_set.specs.Replica.{ReplicaModel}
 use Rattle.cadf_sketch.specs.SketchFile.{sketch_file}
@@ -18,12 +19,14 @@ use Rattle.cadf_tool.specs.declared.input.Loaded.{Loaded}
 use Rattle.cadf_tool.specs.declared.fault.ToolFault.{ToolFault}
 use Rattle.cadf_tool.specs.declared.request.Request.{Request}
 use Rattle.cadf_tool.specs.declared.request.Request.TheVariants as ask
+use Rattle.cadf_tool.specs.Grew.{growth_line}
 use Rattle.cadf_tool.specs.Inputs.{SourceState, source_state}
-use Rattle.cadf_tool.specs.Join.{join_of, of_union}
+use Rattle.cadf_tool.specs.Join.{join_of, of_union, with_union}
+use Rattle.cadf_tool.specs.Listed.{sealed_model_of, sealed_file, growth_for, left_for, left_file}
 use Rattle.cadf_tool.specs.Missing.{part_of_unions}
 use Rattle.cadf_tool.specs.MissingBy.{inventory_model_of, part_by_union}
-use Rattle.cadf_tool.specs.ModelInput.{inventory_spec, sketch_spec, seal_spec, proof_spec}
-use Rattle.cadf_tool.specs.Prove.{proof_of_union}
+use Rattle.cadf_tool.specs.ModelInput.{inventory_spec, sketch_spec, seal_spec, proof_spec, sealed_spec, erased_spec}
+use Rattle.cadf_tool.specs.Prove.{proof_for}
 use Rattle.cadf_tool.specs.Rehearse.{script_spec, final_sites}
 use Rattle.cadf_tool.specs.Rule.{ruled_of}
 use Rattle.cadf_tool.specs.Run.{InputSpec, Sources, input_spec, with_number, both, inputs_from, IsValueOf, IsRunBy}
@@ -35,13 +38,17 @@ use Rattle.cadf_tool.specs.Told.{replica_model_of}
 use Rattle.cadf_tool.specs.Verify.{verdict_of}
 use Rattle.cadf_tool.specs.WrittenFile.{written_file}
 
--- what a delta or a proof is against is one source at least; a seal, facts and a proof are three; a script is one
+-- what a delta or a proof is against is one source at least, and so is a list; a seal, facts and a proof are three; two seals and
+-- a proof are three, and with an erased list four; a script is one
 abbrev pub accepts : Request → ℕ → Bool
 accepts (ask.Missing from) count = nat_lt from count
 accepts ask.MissingBy count = nat_le 1 count
 accepts ask.MissingBySketch count = nat_le 1 count
 accepts ask.Prove count = nat_le 1 count
 accepts (ask.Verify absent) count = nat_eq count 3
+accepts ask.Growth count = nat_le 1 count
+accepts (ask.Grew erased) count = nat_eq count (if erased then 4 else 3)
+accepts ask.Omit count = nat_le 1 count
 accepts (ask.Rehearse log sites) count = nat_eq count 1
 accepts _ count = true
 
@@ -68,14 +75,25 @@ and_one reader count old new = both (inputs_from 1 (take count old) (take count 
 abbrev pub and_last : {T : Type 0} → InputSpec T → List SourceState → List SourceState → Sources (List Loaded × T)
 and_last reader old new = and_one reader (length old - 1) old new
 
--- the first is an input, and so are the others
-abbrev pub one_and_others : List SourceState → List SourceState → Sources (Loaded × List Loaded)
-one_and_others old new = both (first_as 1 input_spec old new) (inputs_from 2 (drop 1 old) (drop 1 new))
+-- the first is read so, and the others are inputs
+abbrev pub first_and_others : {T : Type 0} → InputSpec T → List SourceState → List SourceState → Sources (T × List Loaded)
+first_and_others reader old new = both (first_as 1 reader old new) (inputs_from 2 (drop 1 old) (drop 1 new))
 
--- a seal, an input with facts, and a proof
-abbrev pub seal_facts_proof : List SourceState → List SourceState → Sources (SealModel × (Loaded × ProofModel))
-seal_facts_proof old new =
-    both (first_as 1 seal_spec old new) (both (first_as 2 input_spec (drop 1 old) (drop 1 new)) (first_as 3 proof_spec (drop 2 old) (drop 2 new)))
+-- the first three sources are read so
+abbrev pub three : {A B C : Type 0} → InputSpec A → InputSpec B → InputSpec C → List SourceState → List SourceState → Sources (A × (B × C))
+three first second third old new =
+    both (first_as 1 first old new) (both (first_as 2 second (drop 1 old) (drop 1 new)) (first_as 3 third (drop 2 old) (drop 2 new)))
+
+-- the first source of a list is an erased list, which is input 4, if there is one
+abbrev pub list_if : Bool → List SourceState → List SourceState → Sources (Option ListedModel)
+list_if false old new = record { are = λ list. list ≡ None; refused = λ n f. ⊥; unread = Unit {0}; unfailed = Unit {0}; bounded = Unit {0} }
+list_if true old new =
+    let list = first_as 4 erased_spec old new in
+    record { are = λ o. IsSomeAnd o list.are; refused = list.refused; unread = list.unread; unfailed = list.unfailed; bounded = list.bounded }
+
+-- two seals, a proof, and an erased list if there is one
+abbrev pub seals_proof_list : Bool → List SourceState → List SourceState → Sources ((SealModel × (SealModel × ProofModel)) × Option ListedModel)
+seals_proof_list erased old new = both (three seal_spec seal_spec proof_spec old new) (list_if erased (drop 3 old) (drop 3 new))
 
 -- ---- tasks
 
@@ -110,6 +128,17 @@ against_last {T} reader work = record {
   is_whole = false;
 }
 
+-- what is made of the first source, which is read so, and of the union of the others
+abbrev pub with_first : {T M : Type 0} → InputSpec T → (T → ReplicaModel → Result M ToolFault) → (M → Text) → Task
+with_first {T} {M} reader work tell = record {
+  Read = T × List Loaded;
+  sources = first_and_others reader;
+  Made = M;
+  work = IsValueOf (with_union work);
+  tell = tell;
+  is_whole = false;
+}
+
 abbrev pub task : Request → Task
 task (ask.Join log) = of_all (join_of log) written_file
 task (ask.Split unit log) = of_all (join_of log) (split_text unit)
@@ -126,22 +155,26 @@ task ask.Inventory = of_all (of_union inventory_model_of) inventory_file
 task (ask.Sketch cells salt) = of_all (of_union (sketch_model_of cells salt)) sketch_file
 task ask.MissingBySketch = against_last sketch_spec IsPartOfUnionBySketch
 task ask.Seal = of_all (of_union seal_model_of) seal_file
-task ask.Prove = record {
-  Read = Loaded × List Loaded;
-  sources = one_and_others;
-  Made = ProofModel;
-  work = IsValueOf proof_of_union;
-  tell = proof_file;
-  is_whole = false;
-}
+task ask.Prove = with_first input_spec proof_for proof_file
 task (ask.Verify absent) = record {
   Read = SealModel × (Loaded × ProofModel);
-  sources = seal_facts_proof;
+  sources = three seal_spec input_spec proof_spec;
   Made = Text;
   work = IsValueOf (verdict_of absent);
   tell = λ text. text;
   is_whole = true;
 }
+task ask.Sealed = of_all (of_union sealed_model_of) sealed_file
+task ask.Growth = with_first sealed_spec growth_for proof_file
+task (ask.Grew erased) = record {
+  Read = (SealModel × (SealModel × ProofModel)) × Option ListedModel;
+  sources = seals_proof_list erased;
+  Made = Text;
+  work = IsValueOf growth_line;
+  tell = λ text. text;
+  is_whole = true;
+}
+task ask.Omit = with_first erased_spec left_for left_file
 task (ask.Rule letter key place) = of_all (of_union (ruled_of (encode_utf8 letter) key place)) written_file
 task (ask.Rehearse log sites) = record {
   Read = Result (List Turn) ℕ;

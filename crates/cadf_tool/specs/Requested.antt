@@ -1,17 +1,20 @@
 -- What the text that answers a request says of the files that its sources have left.
 --     IsAnswered q sources text    whatever files they are, the text is what a run of the request makes of them
 --     AreAccepted q sources        the bytes that its inputs have left are files from outside
-use Rattle.std.specs.Prelude.{◌≡◌, ◌-◌, ℕ, List, length, map, take, drop, Some, encode_utf8}
+use Rattle.std.specs.Prelude.{◌≡◌, ◌-◌, ℕ, List, length, map, take, drop, None, Some, encode_utf8}
 use Rattle.cadf_join.specs.Contents.{Text}
+use Rattle.cadf_erased.specs.Left.{is_left}
+use Rattle.cadf_listed.specs.ListFile.{ListedModel}
 use Rattle.cadf_set.specs.Inventory.{InventoryModel}
 use Rattle.cadf_set.specs.Replica.{ReplicaModel}
 use Rattle.cadf_split.specs.Split.{split_text}
 use Rattle.cadf_tool.specs.declared.input.Loaded.{Loaded}
 use Rattle.cadf_tool.specs.declared.request.Request.{Request}
 use Rattle.cadf_tool.specs.declared.request.Request.TheVariants as ask
-use Rattle.cadf_tool.specs.Exchange.{ByFiles, ByInventory, BySketch, Joined, Ruled, Delta, Files, externals, AreRead, IsResult, IsDerived}
-use Rattle.cadf_tool.specs.Exchange.{IsInventoryOf, IsSketchOf, IsSealOf, GivesFile, AreSources}
+use Rattle.cadf_tool.specs.Exchange.{ByFiles, ByInventory, BySketch, Joined, Kept, Ruled, Delta, Files, externals, AreRead, IsResult, IsDerived}
+use Rattle.cadf_tool.specs.Exchange.{IsInventoryOf, IsSketchOf, IsSealOf, IsSealedOf, GivesFile, AreSources}
 use Rattle.cadf_tool.specs.Inputs.{SourceState}
+use Rattle.cadf_tool.specs.Listed.{erased_file}
 use Rattle.cadf_tool.specs.Request.{first_state}
 use Rattle.cadf_tool.specs.Rule.{ruling_on}
 use Rattle.cadf_tool.specs.Shown.{checked_text}
@@ -40,6 +43,10 @@ IsAnswered ask.MissingBySketch sources text = (froms tos : Files) (sketched : In
     → GivesFile (IsSketchOf (λ ls. AreRead tos ls) sketched) (last_state sources)
     → (read : InventoryModel) × IsDerived (Delta (BySketch sketched read) froms tos) text
 IsAnswered ask.Seal sources text = (files : Files) → AreSources files sources → IsSealOf (λ ls. AreRead files ls) text
+IsAnswered ask.Sealed sources text = (files : Files) → AreSources files sources → IsSealedOf (λ ls. AreRead files ls) text
+-- what the list keeps of the union
+IsAnswered ask.Omit sources text = (files : Files) (bytes : List ℕ) → (first_state sources).left ≡ Some bytes → AreSources files (drop 1 sources)
+    → (list : ListedModel) × (bytes ≡ erased_file list) × IsDerived (Kept (is_left list.names) None files) text
 IsAnswered (ask.Rule letter key place) sources text = (files : Files) → AreSources files sources
     → (value : Text) × IsDerived (Ruled place (ruling_on (encode_utf8 letter) key value) files) text
 IsAnswered (ask.Show conflicts) sources text = (files : Files) → AreSources files sources → IsShown conflicts files text
@@ -47,6 +54,8 @@ IsAnswered ask.Check sources text = (files : Files) → AreSources files sources
 -- of these speak the laws of seals and of schedules
 IsAnswered ask.Prove sources text = Unit {0}
 IsAnswered (ask.Verify absent) sources text = Unit {0}
+IsAnswered ask.Growth sources text = Unit {0}
+IsAnswered (ask.Grew erased) sources text = Unit {0}
 IsAnswered (ask.Rehearse log sites) sources text = Unit {0}
 
 -- if it is known which bytes the sources have left, these are files from outside
@@ -58,7 +67,10 @@ abbrev pub AreAccepted : Request → List SourceState → Type 0
 AreAccepted (ask.Missing from) sources = AreOutside (take from sources) × AreOutside (drop from sources)
 AreAccepted ask.MissingBy sources = AreOutside (but_last sources)
 AreAccepted ask.MissingBySketch sources = AreOutside (but_last sources)
+AreAccepted ask.Omit sources = AreOutside (drop 1 sources)
 AreAccepted ask.Prove sources = Unit {0}
 AreAccepted (ask.Verify absent) sources = Unit {0}
+AreAccepted ask.Growth sources = Unit {0}
+AreAccepted (ask.Grew erased) sources = Unit {0}
 AreAccepted (ask.Rehearse log sites) sources = Unit {0}
 AreAccepted _ sources = AreOutside sources

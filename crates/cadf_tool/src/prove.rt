@@ -1,20 +1,16 @@
 //! The engine of `prove`: the proof of which facts of an input are in a union of others, as a proof file.
-ghost use Rattle.std.specs.Prelude.{◌≤◌, length, map, List, None, Ok};
+ghost use Rattle.std.specs.Prelude.{Ok};
 ghost use Rattle.cadf_evidence.specs.ProofFile.{proof_file};
 ghost use Rattle.cadf_set.specs.Inventory.{inventory_of};
-ghost use Rattle.cadf_tool.specs.declared.input.Loaded.{Loaded};
 ghost use Rattle.cadf_tool.specs.Join.{facts_under, on_ok};
-ghost use Rattle.cadf_tool.specs.JoinState.{IsJoinState};
-ghost use Rattle.cadf_tool.specs.Inputs.{source_state};
-ghost use Rattle.cadf_tool.specs.Request.{one_and_others};
-ghost use Rattle.cadf_tool.specs.Prove.{proof_for, proof_of_union};
-ghost use Rattle.cadf_tool.specs.Run.{IsWorked, IsRun};
+ghost use Rattle.cadf_tool.specs.Prove.{proof_for};
+ghost use Rattle.cadf_tool.specs.Run.{input_spec, IsWorked};
 
 use crate::fault::{ToolFault, answered};
+use crate::first::First;
 use crate::input::Loaded;
 use crate::inputs::load_one;
-use crate::join::{facts_under, union_with};
-use crate::join_state::JoinState;
+use crate::join::facts_under;
 use cadf_event::Name;
 use cadf_evidence::Proof;
 use cadf_json::{Sink, Source};
@@ -33,38 +29,33 @@ fn asked_of(alloc: Global, log: &Name, facts: Loaded) -> Result<Inventory, ToolF
 
 /// Makes the proof, by the inventory of `held`, for what the first input contributes to its log. `OtherLog` if that
 /// input names another log.
-fn proof_for(alloc: Global, held: &Replica, facts: Loaded) -> Result<Proof, ToolFault>
-    ensures { IsWorked (proof_for held.now facts) result }
+fn proof_for(alloc: Global, facts: Loaded, held: &Replica) -> Result<Proof, ToolFault>
+    ensures { IsWorked (proof_for facts held.now) result }
 {
     let asked = asked_of(alloc, held.log(), facts)?;
     let inventory = held.inventory()?;
     Proof::of(alloc, &asked, &inventory).or(Err(ToolFault::Memory))
 }
 
-/// Makes the same proof, by the inventory of the union. `NoLog`: no input of the union names a log. `OtherLog`: one
-/// names another log, or the first input does.
-fn proof_by(alloc: Global, union: JoinState, facts: Loaded) -> Result<Proof, ToolFault>
-    ensures { (ls : List Loaded) → IsJoinState 2 None ls union → IsWorked (proof_of_union (facts, ls)) result }
-{
-    let held = union.end()?;
-    proof_for(alloc, &held, facts)
-}
+/// An input whose facts are asked for. The proof of which of them are in the union is made, and its file is written.
+impl First for Loaded {
+    type Made = Proof;
 
-/// Writes the proof file for what the first input contributes, under the seal of the union of the others: which of it is
-/// in the union, and which is not. `Err`: why nothing was written, or only a prefix.
-pub(crate) fn write_proof<R: Source, W: Sink>(
-    alloc: Global,
-    inputs: &mut [R],
-    output: &mut W,
-) -> Result<(), ToolFault>
-    requires { 1 ≤ length inputs.old }
-    ensures { IsRun (one_and_others (map (source_state R.Source) inputs.old) (map (source_state R.Source) inputs.new))
-        proof_of_union proof_file W.Sink output.old output.new result }
-{
-    let (facts, others) = inputs.split_at_mut(1);
-    let facts = &mut facts[0];
-    let asked = load_one(alloc, 1, facts)?;
-    let union = union_with(alloc, JoinState::new(alloc, None), 2, others)?;
-    let proof = proof_by(alloc, union, asked)?;
-    answered(write_model(alloc, &proof, output))
+    ghost spec = { input_spec };
+
+    ghost work = { proof_for };
+
+    ghost tell = { proof_file };
+
+    fn load<R: Source>(alloc: Global, source: &mut R) -> Result<Self, ToolFault> {
+        load_one(alloc, 1, source)
+    }
+
+    fn make(self, alloc: Global, union: Replica) -> Result<Proof, ToolFault> {
+        proof_for(alloc, self, &union)
+    }
+
+    fn write<W: Sink>(alloc: Global, made: &Proof, output: &mut W) -> Result<(), ToolFault> {
+        answered(write_model(alloc, made, output))
+    }
 }

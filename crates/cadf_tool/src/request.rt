@@ -5,20 +5,24 @@ ghost use Rattle.cadf_tool.specs.Request.{accepts, task, IsRequestRun};
 use crate::check::CheckEngine;
 use crate::engine::run_union;
 use crate::fault::ToolFault;
+use crate::first::write_with_union;
+use crate::grew::write_growth;
+use crate::input::Loaded;
 use crate::inventory::InventoryEngine;
 use crate::join::write_join;
 use crate::missing::write_missing;
 use crate::missing_by::write_missing_by;
-use crate::prove::write_proof;
 use crate::rehearse::write_rehearsal;
 use crate::rule::RuleEngine;
 use crate::seal::SealEngine;
+use crate::sealed::SealedEngine;
 use crate::show::ShowEngine;
 use crate::sketch::SketchEngine;
 use crate::split::write_split_file;
 use crate::verify::write_verdict;
 use cadf_event::Name;
 use cadf_json::{Sink, Source};
+use cadf_listed::{Erased, Listed, Sealed};
 use cadf_set::Inventory;
 use cadf_sketch::{Cells, Salt, Sketch};
 use cadf_split::Unit;
@@ -61,6 +65,17 @@ pub enum Request {
     Verify {
         absent: bool,
     },
+    /// The sealed list of the union.
+    Sealed,
+    /// The proof of growth from what the first source has, a sealed list, to the union of the others.
+    Growth,
+    /// A line that says how the sealed set of the second source came of that of the first, by the third, a proof file; with
+    /// `erased` what the fourth has, an erased list, may be gone.
+    Grew {
+        erased: bool,
+    },
+    /// The replica file of the union of all sources but the first, without what the first leaves out, an erased list.
+    Omit,
     /// The replica file of the union, with a ruling for the value at `place`, from 1, of the key's values.
     Rule {
         letter: char,
@@ -87,7 +102,9 @@ impl Request {
     {
         match self {
             Request::Missing { from } => *from < count,
-            Request::MissingBy | Request::MissingBySketch | Request::Prove => count >= 1,
+            Request::MissingBy | Request::MissingBySketch => count >= 1,
+            Request::Prove | Request::Growth | Request::Omit => count >= 1,
+            Request::Grew { erased } => count == if *erased { 4 } else { 3 },
             Request::Verify { .. } => count == 3,
             Request::Rehearse { .. } => count == 1,
             _ => true,
@@ -120,8 +137,12 @@ pub fn run<R: Source, W: Sink>(
         }
         Request::MissingBySketch => write_missing_by::<Sketch, R, W>(alloc, sources, output),
         Request::Seal => run_union(alloc, &SealEngine, sources, output),
-        Request::Prove => write_proof(alloc, sources, output),
+        Request::Prove => write_with_union::<Loaded, R, W>(alloc, sources, output),
         Request::Verify { absent } => write_verdict(alloc, *absent, sources, output),
+        Request::Sealed => run_union(alloc, &SealedEngine, sources, output),
+        Request::Growth => write_with_union::<Listed<Sealed>, R, W>(alloc, sources, output),
+        Request::Grew { erased } => write_growth(alloc, *erased, sources, output),
+        Request::Omit => write_with_union::<Listed<Erased>, R, W>(alloc, sources, output),
         Request::Rule { letter, key, place } => {
             let (letter, place) = (*letter, *place);
             run_union(alloc, &RuleEngine { letter, key, place }, sources, output)

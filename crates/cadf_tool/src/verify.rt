@@ -2,8 +2,9 @@
 ghost use Rattle.std.specs.Prelude.{◌≡◌, length, map, Err};
 ghost use Rattle.cadf_tool.specs.Inputs.{source_state};
 ghost use Rattle.cadf_tool.specs.Join.{IsOnOk};
-ghost use Rattle.cadf_tool.specs.Request.{seal_facts_proof};
-ghost use Rattle.cadf_tool.specs.Run.{IsWorked, IsAnswer, IsRun};
+ghost use Rattle.cadf_tool.specs.ModelInput.{seal_spec, proof_spec};
+ghost use Rattle.cadf_tool.specs.Request.{three};
+ghost use Rattle.cadf_tool.specs.Run.{input_spec, IsWorked, IsAnswer, IsRun};
 ghost use Rattle.cadf_tool.specs.Verify.{verdict_lines, verdict_of};
 
 use crate::fault::ToolFault;
@@ -85,7 +86,7 @@ pub(crate) fn write_verdict<R: Source, W: Sink>(
     output: &mut W,
 ) -> Result<(), ToolFault>
     requires { length sources.old ≡ 3 }
-    ensures verdict { IsRun (seal_facts_proof (map (source_state R.Source) sources.old) (map (source_state R.Source) sources.new))
+    ensures verdict { IsRun (three seal_spec input_spec proof_spec (map (source_state R.Source) sources.old) (map (source_state R.Source) sources.new))
         (verdict_of absent) (λ text. text) W.Sink output.old output.new result }
     // All lines are made before they are written.
     ensures memory { result ≡ Err ToolFault.Memory → output.new ≡ output.old }

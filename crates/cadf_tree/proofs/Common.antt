@@ -3,7 +3,6 @@ pub use Rattle.cadf_tree.specs.Grown.{all_beside, all_needed, are_equal, counts_
 pub use Rattle.cadf_tree.specs.GrowthLaws.{AllSideHashes, AreRising, BothAreHonest, DoNotCollide, EarlierIsHonest, GrownFrom, GrownTo, Hashes, HaveHashes, IsDifference, IsHashedBy, IsHashedFor, IsHashedForBoth, IsHashedOf, JoinedHashes, LaterIsHonest, Marked, SideHashes, TreeHashes, all_kinds, is_added, is_gone, those}
 pub use Rattle.cadf_tree.specs.GrowthMade.{GrowthIsComplete, GrowthIsShort, UnchangedIsAHash, all_of, before, change_shown, compared, digests_of, from, growth_parts, is_changed, kinds_of, past, starts_changed, starts_with}
 pub use Rattle.cadf_tree.specs.Halved.{IsHalved}
-pub use Rattle.cadf_tree.specs.Listed.{NothingGoesUnlisted, first_unlisted}
 pub use Rattle.cadf_tree.specs.Made.{Kinds, MadeHasBothRoots, MadeIsRead, MadeIsShort, all_parts, any_shown, first_kind, is_on, is_shown, leaf_part, made_leaf, made_of, made_parts, preorder, shown_in, side, size}
 unfoldable pub use Rattle.cadf_tree.specs.Made.{made}
 pub use Rattle.cadf_tree.specs.OnePass.{IsBefore, Rises, alike, extended}
@@ -34,15 +33,13 @@ pub use Rattle.std.proofs.lemmas.Grind.{common_steps}
 pub use Rattle.std.proofs.lemmas.List.{append_cancel_left, drop_more, take-append-drop, take_at, take_rest}
 pub use Rattle.std.proofs.lemmas.List.Elements.{filter-append}
 pub use Rattle.std.proofs.lemmas.List.Kept.{IsStrictlySortedBy-filter}
-pub use Rattle.std.proofs.lemmas.List.Sorted.{IsNonDecreasingBy-from_all_adjacent}
 pub use Rattle.std.proofs.lemmas.Map.Text.{is_eq-slice_cmp}
 pub use Rattle.std.proofs.lemmas.Nat.{le-div}
 pub use Rattle.std.specs.Cmp.Lexicographic.{nat_list_cmp_total, slice_cmp}
-pub use Rattle.std.specs.List.{AllAdjacentBelow, AllByRecursion, HoldsAt, filter, list_any}
-pub use Rattle.std.specs.List.Sorted.{IsNonDecreasingBy, IsPartitionPoint}
+pub use Rattle.std.specs.List.{AllByRecursion, filter, list_any}
 unfoldable pub use Rattle.std.specs.List.Sorted.{IsStrictlySortedBy}
 pub use Rattle.std.specs.Option.{option_or}
-pub use Rattle.std.specs.Ordering.{is_eq, is_lt, nat_cmp, ordering_index, ordering_reverse, ordering_then}
-pub use Rattle.std.specs.Prelude.{IfOk, Ok, Result, if◌then◌else◌, nat_eq, nat_le, nat_lt, not, option_map, slice_index_or, unwrap_or, ◌&&◌, ◌||◌, ◌⊎◌}
+pub use Rattle.std.specs.Ordering.{is_eq, is_lt, nat_cmp, ordering_reverse, ordering_then}
+pub use Rattle.std.specs.Prelude.{IfOk, Ok, Result, if◌then◌else◌, nat_eq, nat_le, nat_lt, not, option_map, unwrap_or, ◌&&◌, ◌||◌, ◌⊎◌}
 pub use Rattle.std.specs.declared.cmp.Ordering.{Ordering}
 pub use Rattle.std.specs.declared.cmp.Ordering.TheVariants.{Equal, Greater, Less}

@@ -1,11 +1,9 @@
 mod Asking
 mod Celled
-mod Comparing
 mod Differing
 mod Filling
 mod Halving
 mod Judged
-mod Listing
 mod Making
 mod Measuring
 mod OnePass
@@ -14,5 +12,6 @@ mod Showing
 mod Sorted
 mod Vouching
 pub mod Common
+pub mod Comparing
 pub mod Steps
 pub mod Walking

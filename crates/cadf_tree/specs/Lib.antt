@@ -2,7 +2,6 @@ pub mod Grown
 pub mod GrowthLaws
 pub mod GrowthMade
 pub mod Halved
-pub mod Listed
 pub mod Made
 pub mod OnePass
 pub mod Presence

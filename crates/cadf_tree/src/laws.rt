@@ -2,7 +2,6 @@
 ghost use Rattle.std.specs.Prelude.{◌≡◌, List, ℕ};
 ghost use Rattle.cadf_tree.specs.GrowthLaws.{EarlierIsHonest, LaterIsHonest, BothAreHonest};
 ghost use Rattle.cadf_tree.specs.GrowthMade.{GrowthIsComplete, GrowthIsShort, UnchangedIsAHash};
-ghost use Rattle.cadf_tree.specs.Listed.{NothingGoesUnlisted};
 ghost use Rattle.cadf_tree.specs.Made.{MadeIsRead, MadeHasBothRoots, MadeIsShort};
 ghost use Rattle.cadf_tree.specs.Presence.{PresenceIsSound};
 ghost use Rattle.cadf_tree.specs.PresenceMade.{PresenceIsComplete, PresenceIsShort};
@@ -61,10 +60,4 @@ pub fn made_tree_is_short()
     ensures tree { MadeIsShort }
     ensures presence { PresenceIsShort }
     ensures growth { GrowthIsShort }
-{}
-
-/// States that each digest of the earlier set is in the later one or in the list, if none is found that is gone and isn't in
-/// it.
-pub fn nothing_goes_unlisted()
-    ensures { NothingGoesUnlisted }
 {}

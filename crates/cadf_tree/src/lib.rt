@@ -5,7 +5,6 @@ mod asked;
 mod compared;
 mod growth;
 mod laws;
-mod listed;
 mod parts;
 mod presence;
 mod pruning;
@@ -16,10 +15,8 @@ pub use compared::growth_of;
 pub use growth::{Growth, TreeFault, grew};
 pub use laws::{
     growth_is_complete, growth_is_sound, later_root_vouches, made_tree_has_both_roots,
-    made_tree_is_short, nothing_goes_unlisted, presence_is_complete, presence_is_sound,
-    tree_has_the_set,
+    made_tree_is_short, presence_is_complete, presence_is_sound, tree_has_the_set,
 };
-pub use listed::first_unlisted;
 pub use parts::{Kind, Part};
 pub use presence::{is_ahead, is_past, shown, state};
 pub use pruning::parts_of;

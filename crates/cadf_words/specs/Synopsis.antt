@@ -22,7 +22,8 @@ use Rattle.clap.specs.declared.builder.value_parser.ValueParser.{ValueParser}
 use Rattle.clap.specs.declared.builder.value_parser.ValueParser.TheVariants.{Names}
 use Rattle.cadf_words.specs.declared.request.Request.{Request}
 use Rattle.cadf_words.specs.declared.request.Request.TheVariants.{Join, Split, Missing, MissingBy, Inventory, Sketch, MissingBySketch}
-use Rattle.cadf_words.specs.declared.request.Request.TheVariants.{Seal, Prove, Verify, Rule as Ruling, Rehearse, Show, Check}
+use Rattle.cadf_words.specs.declared.request.Request.TheVariants.{Seal, Prove, Verify, Sealed, Growth, Grew, Omit}
+use Rattle.cadf_words.specs.declared.request.Request.TheVariants.{Rule as Ruling, Rehearse, Show, Check}
 use Rattle.cadf_words.specs.declared.reply.Reply.{Reply}
 use Rattle.cadf_words.specs.declared.reply.Reply.TheVariants.{Memory, Help, Refused}
 
@@ -58,6 +59,10 @@ synopsis =
     ∷ (codes "seal", (codes "FILE", several) ∷ [])
     ∷ (codes "prove", (codes "FACTS", once) ∷ (codes "FILE", several) ∷ [])
     ∷ (codes "verify", (codes "absent", flag) ∷ (codes "SEAL", once) ∷ (codes "FACTS", once) ∷ (codes "PROOF", once) ∷ [])
+    ∷ (codes "sealed", (codes "FILE", several) ∷ [])
+    ∷ (codes "growth", (codes "SEALED", once) ∷ (codes "FILE", several) ∷ [])
+    ∷ (codes "grew", (codes "erased", optional) ∷ (codes "OLD", once) ∷ (codes "NEW", once) ∷ (codes "PROOF", once) ∷ [])
+    ∷ (codes "omit", (codes "LIST", once) ∷ (codes "FILE", several) ∷ [])
     ∷ (codes "rule", (codes "LETTER", once) ∷ (codes "KEY", once) ∷ (codes "PLACE", once) ∷ (codes "FILE", several) ∷ [])
     ∷ (codes "rehearse", (codes "LOG", once) ∷ (codes "SITES", once) ∷ (codes "SCRIPT", once) ∷ [])
     ∷ (codes "show", (codes "conflicts", flag) ∷ (codes "FILE", several) ∷ [])
@@ -134,6 +139,12 @@ IsAsked name rows (Prove facts files) = (name ≡ codes "prove") × IsValue "FAC
 IsAsked name rows (Verify absent seal facts proof) =
     (name ≡ codes "verify") × IsFlag (codes "absent") rows absent × IsValue "SEAL" rows seal × IsValue "FACTS" rows facts
     × IsValue "PROOF" rows proof
+IsAsked name rows (Sealed files) = (name ≡ codes "sealed") × AreFiles rows files.items
+IsAsked name rows (Growth sealed files) = (name ≡ codes "growth") × IsValue "SEALED" rows sealed × AreFiles rows files.items
+IsAsked name rows (Grew erased old new proof) =
+    (name ≡ codes "grew") × IsOption "erased" rows erased × IsValue "OLD" rows old × IsValue "NEW" rows new
+    × IsValue "PROOF" rows proof
+IsAsked name rows (Omit list files) = (name ≡ codes "omit") × IsValue "LIST" rows list × AreFiles rows files.items
 IsAsked name rows (Ruling letter key place files) =
     (name ≡ codes "rule") × IsValue "LETTER" rows letter × IsValue "KEY" rows key × IsValue "PLACE" rows place
     × AreFiles rows files.items

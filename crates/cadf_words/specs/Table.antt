@@ -26,12 +26,15 @@ word_of row = (row.0.now, form_of row.1)
 abbrev pub command_of : Bor Text × Bor Text × Bor (List (Bor Text × Kind × Bor Text)) → Text × List Word
 command_of row = (row.0.now, map word_of row.2.now)
 
--- the names of the commands, of those that take the union of files, and of those of seals among these
+-- the names of the commands, of those that take the union of files, of those of seals among these, and of those of growth among these
 abbrev pub command_names : List Text
 command_names = map (λ command. command.0) synopsis
 
+abbrev pub growth_names : List Text
+growth_names = codes "sealed" ∷ codes "growth" ∷ codes "grew" ∷ codes "omit" ∷ []
+
 abbrev pub sealing_names : List Text
-sealing_names = codes "seal" ∷ codes "prove" ∷ codes "verify" ∷ []
+sealing_names = codes "seal" ∷ codes "prove" ∷ codes "verify" ∷ growth_names
 
 abbrev pub names_with_files : List Text
 names_with_files = codes "join" ∷ codes "split" ∷ codes "inventory" ∷ codes "sketch" ∷ codes "rule" ∷ codes "show" ∷ codes "check" ∷ sealing_names

@@ -6,7 +6,7 @@ ghost use Rattle.clap.specs.Values.{kind_of};
 ghost use Rattle.clap.specs.declared.error.kind.ErrorKind.TheVariants.{OutOfMemory};
 ghost use Rattle.cadf_words.specs.Synopsis.{AreFiles, HasKindOf, IsAsked, IsFlag, IsTold, MakesRequest};
 ghost use Rattle.cadf_words.specs.Synopsis.{value_of, values_of};
-ghost use Rattle.cadf_words.specs.Table.{AreMatches, command_names, is_among, names_with_files, sealing_names};
+ghost use Rattle.cadf_words.specs.Table.{AreMatches, command_names, is_among, growth_names, names_with_files, sealing_names};
 
 use crate::reply::Reply;
 use crate::table::command;
@@ -57,6 +57,23 @@ pub enum Request<'a> {
         seal: &'a str,
         facts: &'a str,
         proof: &'a str,
+    },
+    Sealed {
+        files: Vec<&'a str>,
+    },
+    Growth {
+        sealed: &'a str,
+        files: Vec<&'a str>,
+    },
+    Grew {
+        erased: Option<&'a str>,
+        old: &'a str,
+        new: &'a str,
+        proof: &'a str,
+    },
+    Omit {
+        list: &'a str,
+        files: Vec<&'a str>,
     },
     Rule {
         letter: &'a str,
@@ -129,6 +146,31 @@ fn first_and_more<'a>(
     Ok(files)
 }
 
+/// Makes the request of a command of growth or of erasure, with its files.
+fn growth_of<'a>(name: &str, matches: &ArgMatches<'a>, files: Vec<&'a str>) -> Request<'a>
+    requires known { is_among growth_names name.now ≡ true }
+    requires found { AreFiles (rows_of (found_of matches.now)) files.items }
+    ensures { IsAsked name.now (rows_of (found_of matches.now)) result }
+{
+    match name {
+        "sealed" => Request::Sealed { files },
+        "growth" => Request::Growth {
+            sealed: word(matches, "SEALED"),
+            files,
+        },
+        "grew" => Request::Grew {
+            erased: option(matches, "erased"),
+            old: word(matches, "OLD"),
+            new: word(matches, "NEW"),
+            proof: word(matches, "PROOF"),
+        },
+        _ => Request::Omit {
+            list: word(matches, "LIST"),
+            files,
+        },
+    }
+}
+
 /// Makes the request of a command of seals and proofs, with its files.
 fn sealing_of<'a>(name: &str, matches: &ArgMatches<'a>, files: Vec<&'a str>) -> Request<'a>
     requires known { is_among sealing_names name.now ≡ true }
@@ -141,12 +183,13 @@ fn sealing_of<'a>(name: &str, matches: &ArgMatches<'a>, files: Vec<&'a str>) -> 
             facts: word(matches, "FACTS"),
             files,
         },
-        _ => Request::Verify {
+        "verify" => Request::Verify {
             absent: flag(matches, "absent"),
             seal: word(matches, "SEAL"),
             facts: word(matches, "FACTS"),
             proof: word(matches, "PROOF"),
         },
+        _ => growth_of(name, matches, files),
     }
 }
 

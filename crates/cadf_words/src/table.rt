@@ -125,7 +125,7 @@ const COMMANDS: &[(&str, &str, &[Word])] = &[
     ),
     (
         "seal",
-        "Writes the number of facts in the files, and one hash of all of them",
+        "Writes the number and the hash of the facts in the files, and of their keys",
         &[INPUTS],
     ),
     (
@@ -149,6 +149,49 @@ const COMMANDS: &[(&str, &str, &[Word])] = &[
                 Kind::File,
                 "The proof that was made for these facts",
             ),
+        ],
+    ),
+    (
+        "sealed",
+        "Lists the digests of all facts in the files, and of their keys",
+        &[INPUTS],
+    ),
+    (
+        "growth",
+        "Writes a proof of how the files came of those that SEALED lists",
+        &[
+            (
+                "SEALED",
+                Kind::File,
+                "The sealed list of the files as they were",
+            ),
+            INPUTS,
+        ],
+    ),
+    (
+        "grew",
+        "Checks by PROOF that all that is sealed in OLD is sealed in NEW too",
+        &[
+            (
+                "erased",
+                Kind::Option("LIST"),
+                "An erased list: what may be gone",
+            ),
+            ("OLD", Kind::File, "The earlier seal"),
+            ("NEW", Kind::File, "The later seal"),
+            (
+                "PROOF",
+                Kind::File,
+                "The proof that was made from the one to the other",
+            ),
+        ],
+    ),
+    (
+        "omit",
+        "Merges the inputs, and leaves out what LIST has",
+        &[
+            ("LIST", Kind::File, "An erased list: what to leave out"),
+            INPUTS,
         ],
     ),
     (

@@ -80,6 +80,13 @@ fn request(alloc: Global, name: &str, words: Words<'_>) -> Option<(Request, usiz
             let absent = words.text(4) == "absent";
             (Request::Verify { absent }, 5)
         }
+        "sealed" => (Request::Sealed, 4),
+        "growth" => (Request::Growth, 4),
+        "grew" => {
+            let erased = words.text(4) == "erased";
+            (Request::Grew { erased }, 5)
+        }
+        "omit" => (Request::Omit, 4),
         "rule" => {
             let (letter, key, place) = ruling(alloc, words)?;
             (Request::Rule { letter, key, place }, 7)

@@ -100,6 +100,15 @@ fn asked(alloc: Global, request: &Request<'_>) -> Result<String, Memory> {
             facts,
             proof,
         } => of_files(alloc, &["Verify", flag(*absent)], &[*seal, *facts, *proof]),
+        Request::Sealed { files } => of_files(alloc, &["Sealed"], files),
+        Request::Growth { sealed, files } => of_files(alloc, &["Growth", sealed], files),
+        Request::Grew {
+            erased,
+            old,
+            new,
+            proof,
+        } => with_options(alloc, &["Grew"], &[*erased], &[*old, *new, *proof]),
+        Request::Omit { list, files } => of_files(alloc, &["Omit", list], files),
         Request::Rule {
             letter,
             key,

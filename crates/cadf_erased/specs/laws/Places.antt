@@ -6,7 +6,7 @@ use Rattle.cadf_join.specs.Sets as set
 use Rattle.cadf_join.specs.Contents.{Texts}
 use Rattle.cadf_line.specs.Digest.{atom_digest}
 use Rattle.cadf_key.specs.laws.Collected.{none_decide, same_key}
-use Rattle.cadf_erased.specs.ErasedFile.{Names, key_name}
+use Rattle.cadf_listed.specs.ListFile.{Names, key_name}
 use Rattle.cadf_erased.specs.Left.{is_omitted, places_left, Collects, IsKnown}
 
 places_append : (n m : ℕ) (names : Names) (xs ys : List Texts) → m ≡ n + length xs → places_left n names (xs ++ ys) ≡ places_left n names xs ++ places_left m names ys

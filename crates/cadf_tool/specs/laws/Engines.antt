@@ -5,6 +5,7 @@ use Rattle.cadf_join.specs.Contents.{Text, Contents}
 use Rattle.cadf_line.specs.Digest.{atom_digest}
 use Rattle.cadf_line.specs.Missing.{digests_of}
 use Rattle.cadf_evidence.specs.SealFile.{seal_of}
+use Rattle.cadf_evidence.specs.Made.{sealed_of}
 use Rattle.cadf_tool.specs.declared.input.Loaded.{Loaded}
 use Rattle.cadf_tool.specs.declared.input.Loaded.TheVariants.{Replica}
 use Rattle.cadf_tool.specs.declared.fault.ToolFault.{ToolFault}
@@ -12,6 +13,7 @@ use Rattle.cadf_tool.specs.declared.fault.ToolFault.TheVariants.{NoLog}
 use Rattle.cadf_tool.specs.Join.{on_ok}
 use Rattle.cadf_tool.specs.MissingBy.{inventory_model_under, inventory_model_of}
 use Rattle.cadf_tool.specs.Rule.{ruled_in, ruled_of}
+use Rattle.cadf_tool.specs.Listed.{sealed_model_of}
 use Rattle.cadf_tool.specs.Seal.{seal_model_of}
 use Rattle.cadf_tool.specs.Sketch.{sketch_of_result, sketch_model_of}
 use Rattle.cadf_tool.specs.Told.{log_named, atoms_loaded, under_log, replica_model_of}
@@ -39,6 +41,9 @@ of_sketch cells salt l = by_log (λ o s. sketch_of_result cells salt (inventory_
 
 pub of_seal : IsOfReplica seal_model_of
 of_seal l = by_log (λ o s. on_ok (under_log o s) (λ h. Ok (seal_of h))) (λ s. refl) l
+
+pub of_sealed : IsOfReplica sealed_model_of
+of_sealed l = by_log (λ o s. on_ok (under_log o s) (λ h. Ok (sealed_of h))) (λ s. refl) l
 
 pub of_ruled : (letter key : Text) (place : ℕ) → IsOfReplica (ruled_of letter key place)
 of_ruled letter key place l = by_log (λ o s. ruled_in letter key place (under_log o s)) (λ s. refl) l

@@ -1,4 +1,4 @@
-use Rattle.cadf_evidence.proofs.Common.{◌≡◌, ◌∙◌, None, Ok, Some, ap, arith, common_steps, option_or, rising, shown, fact_digests, told, tree_refusal}
+use Rattle.cadf_evidence.proofs.Common.{◌≡◌, ◌∙◌, None, Ok, Some, ap, arith, common_steps, rising, shown, fact_digests, told, tree_refusal}
 use Rattle.cadf_evidence.proofs.AskedDigests.{tree_refused, facts_refused, facts_told, of_facts}
 use Rattle.cadf_evidence.proofs.verify.verified.Goals as goal
 

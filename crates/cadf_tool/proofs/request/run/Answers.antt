@@ -17,10 +17,19 @@ pub returns-in-MissingBySketch-clause-run : goal.returns-in-MissingBySketch-clau
 returns-in-MissingBySketch-clause-run g c = as_asked g.R.Source _ _ g.W.Sink _ _ _ c.in-MissingBySketch.is c.write_missing_by-in-MissingBySketch.ensures
 
 pub returns-in-Prove-clause-run : goal.returns-in-Prove-clause-run
-returns-in-Prove-clause-run g c = as_asked g.R.Source _ _ g.W.Sink _ _ _ c.in-Prove.is c.write_proof.ensures
+returns-in-Prove-clause-run g c = as_asked g.R.Source _ _ g.W.Sink _ _ _ c.in-Prove.is c.write_with_union.ensures
 
 pub returns-in-Verify-clause-run : goal.returns-in-Verify-clause-run
 returns-in-Verify-clause-run g c = as_asked g.R.Source _ _ g.W.Sink _ _ _ c.in-Verify.is c.write_verdict.ensures.verdict
+
+pub returns-in-Growth-clause-run : goal.returns-in-Growth-clause-run
+returns-in-Growth-clause-run g c = as_asked g.R.Source _ _ g.W.Sink _ _ _ c.in-Growth.is c.write_with_union-in-Growth.ensures
+
+pub returns-in-Grew-clause-run : goal.returns-in-Grew-clause-run
+returns-in-Grew-clause-run g c = as_asked g.R.Source _ _ g.W.Sink _ _ _ c.in-Grew.is c.write_growth.ensures.growth
+
+pub returns-in-Omit-clause-run : goal.returns-in-Omit-clause-run
+returns-in-Omit-clause-run g c = as_asked g.R.Source _ _ g.W.Sink _ _ _ c.in-Omit.is c.write_with_union-in-Omit.ensures
 
 pub returns-in-Rule-clause-run : goal.returns-in-Rule-clause-run
 returns-in-Rule-clause-run g c = as_asked g.R.Source _ _ g.W.Sink _ _ _ c.in-Rule.is c.run_union-in-Rule.ensures.run

@@ -1,0 +1,5 @@
+pub mod Common
+pub mod ListLemmas
+pub mod MarkedNames
+pub mod NameLines
+pub mod Searching

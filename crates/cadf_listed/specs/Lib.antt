@@ -1,0 +1,2 @@
+pub mod ListFile
+pub mod ListVerdict
