@@ -23,9 +23,9 @@
  * What each caller must ensure; nothing checks it:
  *
  *  - Each address is that of as many bytes as its length or room says, for the whole call. The functions below take NULL
- *    for an output without room, for a log that isn't given, and for an input of no bytes. The elements of the arrays of
- *    cadf_join, cadf_split and cadf_prove are taken as they are: fill them by cadf_bytes_of, or with addresses that aren't
- *    NULL.
+ *    for an output without room, for a log or a list that isn't given, and for an input of no bytes. The elements of the arrays of
+ *    cadf_join, cadf_split, cadf_prove, cadf_growth and cadf_omit are taken as they are: fill them by cadf_bytes_of, or with
+ *    addresses that aren't NULL.
  *  - The output and `*length` overlap neither one another nor an input, and no other thread writes to an input meanwhile.
  *    What the buffer and `*length` held before isn't read.
  *  - A length or a room is at most 2^63-1. An input above 2^30 bytes is refused; a longer output is no input.
@@ -111,6 +111,23 @@ int cadf_prove(const struct cadf_bytes *facts, const struct cadf_bytes *inputs, 
  * unless all are so, and if there is no fact. */
 int cadf_verify(bool absent, const struct cadf_bytes *seal, const struct cadf_bytes *facts, const struct cadf_bytes *proof,
                 uint8_t *output, size_t room, size_t *length);
+
+/* The sealed list of the input: the digests of its facts and of their keys. */
+int cadf_sealed(const struct cadf_bytes *input, uint8_t *output, size_t room, size_t *length);
+
+/* The proof of growth from what the sealed list has to all inputs. `sealed` is input 1. */
+int cadf_growth(const struct cadf_bytes *sealed, const struct cadf_bytes *inputs, size_t count,
+                uint8_t *output, size_t room, size_t *length);
+
+/* One line, by a proof under an earlier seal and a later one: how many facts were added, and with an erased list how many
+ * were erased. Refused unless all that was sealed is there still, or in the list, which is input 4. A list of no bytes is
+ * none. */
+int cadf_grew(const struct cadf_bytes *erased, const struct cadf_bytes *earlier, const struct cadf_bytes *later,
+              const struct cadf_bytes *proof, uint8_t *output, size_t room, size_t *length);
+
+/* The replica file of all inputs without what the erased list has. `list` is input 1. */
+int cadf_omit(const struct cadf_bytes *list, const struct cadf_bytes *inputs, size_t count,
+              uint8_t *output, size_t room, size_t *length);
 
 /* The input's replica file with a ruling more: the value at that place, from 1, of the key of that letter is to be shown. */
 int cadf_rule(uint8_t letter, const struct cadf_bytes *key, uint64_t place, const struct cadf_bytes *input,
@@ -240,6 +257,41 @@ static inline int cadf_verify_or_null(bool absent, const struct cadf_bytes *seal
     return cadf_verify(absent, &first, &second, &third, output ? output : &nowhere, output ? room : 0, length);
 }
 
+static inline int cadf_sealed_or_null(const struct cadf_bytes *input, uint8_t *output, size_t room, size_t *length)
+{
+    uint8_t nowhere = 0;
+    const struct cadf_bytes one = cadf_bytes_at(input);
+    return cadf_sealed(&one, output ? output : &nowhere, output ? room : 0, length);
+}
+
+static inline int cadf_growth_or_null(const struct cadf_bytes *sealed, const struct cadf_bytes *inputs, size_t count,
+                                      uint8_t *output, size_t room, size_t *length)
+{
+    uint8_t nowhere = 0;
+    const struct cadf_bytes none = cadf_bytes_of(NULL, 0), one = cadf_bytes_at(sealed);
+    return cadf_growth(&one, inputs ? inputs : &none, inputs ? count : 0,
+                       output ? output : &nowhere, output ? room : 0, length);
+}
+
+static inline int cadf_grew_or_null(const struct cadf_bytes *erased, const struct cadf_bytes *earlier,
+                                    const struct cadf_bytes *later, const struct cadf_bytes *proof,
+                                    uint8_t *output, size_t room, size_t *length)
+{
+    uint8_t nowhere = 0;
+    const struct cadf_bytes list = cadf_bytes_at(erased), first = cadf_bytes_at(earlier), second = cadf_bytes_at(later);
+    const struct cadf_bytes third = cadf_bytes_at(proof);
+    return cadf_grew(&list, &first, &second, &third, output ? output : &nowhere, output ? room : 0, length);
+}
+
+static inline int cadf_omit_or_null(const struct cadf_bytes *list, const struct cadf_bytes *inputs, size_t count,
+                                    uint8_t *output, size_t room, size_t *length)
+{
+    uint8_t nowhere = 0;
+    const struct cadf_bytes none = cadf_bytes_of(NULL, 0), one = cadf_bytes_at(list);
+    return cadf_omit(&one, inputs ? inputs : &none, inputs ? count : 0,
+                     output ? output : &nowhere, output ? room : 0, length);
+}
+
 static inline int cadf_rule_or_null(uint8_t letter, const struct cadf_bytes *key, uint64_t place,
                                     const struct cadf_bytes *input, uint8_t *output, size_t room, size_t *length)
 {
@@ -268,6 +320,10 @@ static inline int cadf_rehearse_or_null(const struct cadf_bytes *log, uint64_t s
 #define cadf_seal(...) cadf_seal_or_null(__VA_ARGS__)
 #define cadf_prove(...) cadf_prove_or_null(__VA_ARGS__)
 #define cadf_verify(...) cadf_verify_or_null(__VA_ARGS__)
+#define cadf_sealed(...) cadf_sealed_or_null(__VA_ARGS__)
+#define cadf_growth(...) cadf_growth_or_null(__VA_ARGS__)
+#define cadf_grew(...) cadf_grew_or_null(__VA_ARGS__)
+#define cadf_omit(...) cadf_omit_or_null(__VA_ARGS__)
 #define cadf_rule(...) cadf_rule_or_null(__VA_ARGS__)
 #define cadf_rehearse(...) cadf_rehearse_or_null(__VA_ARGS__)
 

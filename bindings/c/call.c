@@ -4,7 +4,8 @@
  *     call show FILE | conflicts FILE | check FILE | inventory FILE | missing FROM TO | missing-by FROM INVENTORY
  *     call join LOG FILE.. | split UNIT LOG FILE.. | rule LETTER KEY PLACE FILE | rehearse LOG SITES SCRIPT
  *     call sketch CELLS SALT FILE | missing-by-sketch FROM SKETCH | seal FILE | prove FACTS FILE..
- *     call verify SEAL FACTS PROOF | absent SEAL FACTS PROOF
+ *     call verify SEAL FACTS PROOF | absent SEAL FACTS PROOF | grew OLD NEW PROOF [LIST]
+ *     call sealed FILE | growth SEALED FILE.. | omit LIST FILE..
  *
  * An empty LOG is none, and so is 0 for CELLS or SALT. PLACE, SITES, CELLS and SALT are decimal numbers below 2^64, without a sign or
  * leading zeros. The exit status is that of the command; 3 where a file can't be read or the output not written, 2 where the words
@@ -86,6 +87,18 @@ static int call(int count, char **words, uint8_t *output, size_t room, size_t *l
         const struct cadf_bytes *inputs = files(count - 1, words + 1);
         return cadf_prove(inputs, inputs + 1, count - 2, output, room, length);
     }
+    if (count >= 2 && count < 4098 && !strcmp(name, "growth")) {
+        const struct cadf_bytes *inputs = files(count - 1, words + 1);
+        return cadf_growth(inputs, inputs + 1, count - 2, output, room, length);
+    }
+    if (count >= 2 && count < 4098 && !strcmp(name, "omit")) {
+        const struct cadf_bytes *inputs = files(count - 1, words + 1);
+        return cadf_omit(inputs, inputs + 1, count - 2, output, room, length);
+    }
+    if ((count == 4 || count == 5) && !strcmp(name, "grew")) {
+        const struct cadf_bytes *inputs = files(count - 1, words + 1), none = word("");
+        return cadf_grew(count == 5 ? inputs + 3 : &none, inputs, inputs + 1, inputs + 2, output, room, length);
+    }
     if (count == 4 && (!strcmp(name, "verify") || !strcmp(name, "absent"))) {
         const struct cadf_bytes *inputs = files(3, words + 1);
         return cadf_verify(name[0] == 'a', inputs, inputs + 1, inputs + 2, output, room, length);
@@ -102,6 +115,8 @@ static int call(int count, char **words, uint8_t *output, size_t room, size_t *l
         return cadf_inventory(&first, output, room, length);
     if (count == 2 && !strcmp(name, "seal"))
         return cadf_seal(&first, output, room, length);
+    if (count == 2 && !strcmp(name, "sealed"))
+        return cadf_sealed(&first, output, room, length);
     if (count == 3 && !strcmp(name, "missing"))
         return cadf_missing(&first, &second, output, room, length);
     if (count == 3 && !strcmp(name, "missing-by"))

@@ -29,8 +29,8 @@ from ._site import Conflicts, Event, Events, Site
 
 __version__ = "0.1.0"
 __all__ = ["CadfError", "CadfWarning", "Check", "Conflicts", "Event", "Events", "Failed", "OutOfMemory", "Refused", "Site", "WrongArgument",
-           "check", "inventory", "join", "missing", "missing_by", "missing_by_sketch", "prove", "rehearse", "rule", "seal", "show", "sketch",
-           "split", "verify", "version"]
+           "check", "grew", "growth", "inventory", "join", "missing", "missing_by", "missing_by_sketch", "omit", "prove", "rehearse", "rule",
+           "seal", "sealed", "show", "sketch", "split", "verify", "version"]
 
 _CHECKED = re.compile(rb"ok (.*) atoms (\d+) conflicts (\d+)\n", re.DOTALL)
 # What a call is given room for at first, beyond twice the size of its inputs.
@@ -115,9 +115,9 @@ def _listed(texts: List[bytes]) -> Tuple[Any, int]:
         raise OutOfMemory(NO_MEMORY) from None
 
 
-def _log(log: Optional[str]) -> bytes:
-    """The bytes of a log that may be given: none for none. An empty one is handed on as a control character, which is refused."""
-    return b"" if log is None else _of(log) or b"\0"
+def _if_any(value: Optional[Input]) -> bytes:
+    """The bytes of what may be given: none for none. What is given without bytes is handed on as a control character, which is refused."""
+    return b"" if value is None else _of(value) or b"\0"
 
 
 def _room(*inputs: bytes) -> int:
@@ -135,7 +135,7 @@ def join(inputs: Iterable[Input], log: Optional[str] = None) -> bytes:
 
     Refused: an input is refused, is of another log, or none names a log. WrongArgument: `log` is no name. OutOfMemory.
     """
-    texts, name = _texts(inputs), _log(log)
+    texts, name = _texts(inputs), _if_any(log)
     return _call("join", _room(*texts), *_listed(texts), _given(name))
 
 
@@ -145,7 +145,7 @@ def split(by: str, inputs: Iterable[Input], log: Optional[str] = None) -> bytes:
     `by` is "month", "day" or "hour", in UTC. Refused: as by `join`. WrongArgument: `by` is no unit, or `log` no name.
     OutOfMemory.
     """
-    unit, texts, name = _of(by), _texts(inputs), _log(log)
+    unit, texts, name = _of(by), _texts(inputs), _if_any(log)
     return _call("split", _room(*texts), _given(unit), *_listed(texts), _given(name))
 
 
@@ -222,6 +222,43 @@ def verify(seal: Input, facts: Input, proof: Input, absent: bool = False) -> byt
     """
     texts = _of(seal), _of(facts), _of(proof)
     return _call("verify", _room(texts[1]), bool(absent), *map(_given, texts))
+
+
+def sealed(value: Input) -> bytes:
+    """Returns the sealed list of an input: the SHA-256 digests of all its facts, and of their keys.
+
+    Refused: the input is refused. OutOfMemory.
+    """
+    text = _of(value)
+    return _call("sealed", _room(text), _given(text))
+
+
+def growth(listed: Input, inputs: Iterable[Input]) -> bytes:
+    """Returns the proof of growth from what a sealed list has to all inputs.
+
+    Refused: `listed` or an input is refused, or is of another log, or no input names a log. `listed` is input 1. OutOfMemory.
+    """
+    first, texts = _of(listed), _texts(inputs)
+    return _call("growth", _room(first, *texts), _given(first), *_listed(texts))
+
+
+def grew(old: Input, new: Input, proof: Input, erased: Optional[Input] = None) -> bytes:
+    """Returns a line: how many facts were added between two seals, and with `erased` how many were erased.
+
+    Refused: one of them is refused or of another log, the proof doesn't show how the one sealed set came of the other, or
+    something is gone that an erased list doesn't have. OutOfMemory.
+    """
+    texts = _if_any(erased), _of(old), _of(new), _of(proof)
+    return _call("grew", _ROOM, *map(_given, texts))
+
+
+def omit(listed: Input, inputs: Iterable[Input]) -> bytes:
+    """Returns the replica file of all inputs, without what an erased list has.
+
+    Refused: `listed` or an input is refused, or is of another log, or no input names a log. `listed` is input 1. OutOfMemory.
+    """
+    first, texts = _of(listed), _texts(inputs)
+    return _call("omit", _room(*texts), _given(first), *_listed(texts))
 
 
 def show(value: Input, conflicts: bool = False) -> bytes:

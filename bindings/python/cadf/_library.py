@@ -30,6 +30,10 @@ FUNCTIONS: Dict[str, List[Any]] = {
     "seal": _INPUT,
     "prove": [*_INPUT * 2, ctypes.c_size_t],
     "verify": [ctypes.c_bool, *_INPUT * 3],
+    "sealed": _INPUT,
+    "growth": [*_INPUT * 2, ctypes.c_size_t],
+    "grew": _INPUT * 4,
+    "omit": [*_INPUT * 2, ctypes.c_size_t],
     "rule": [ctypes.c_uint8, *_INPUT, ctypes.c_uint64, *_INPUT],
     "rehearse": [*_INPUT, ctypes.c_uint64, *_INPUT],
 }

@@ -89,6 +89,31 @@ class Calls(unittest.TestCase):
         self.refuses(1, "input 1: other log", cadf.prove, '{"id":"h","events":[]}', both)
         self.refuses(1, "no log named", cadf.prove, A, [])
 
+    def test_growth_is_shown(self):
+        both = cadf.join([A, B])
+        proof, back = cadf.growth(cadf.sealed(A), [A, B]), cadf.growth(cadf.sealed(both), [A])
+        self.assertEqual(cadf.grew(cadf.seal(A), cadf.seal(both), proof), b"added 1\n")
+        gone = hashlib.sha256(b'["P","name","\\"b\\""]').hexdigest()
+        self.refuses(1, "input 2: facts: gone: " + gone, cadf.grew, cadf.seal(both), cadf.seal(A), back)
+        listed = self.listed("F " + gone)
+        self.assertEqual(cadf.grew(cadf.seal(both), cadf.seal(A), back, erased=listed), b"added 0, erased 1\n")
+        self.refuses(1, "input 4: truncated", cadf.grew, cadf.seal(both), cadf.seal(A), back, b"")
+        self.refuses(1, "input 3: facts: other count", cadf.grew, cadf.seal(both), cadf.seal(A), proof)
+        self.refuses(1, "input 1: version", cadf.growth, cadf.seal(A), [A])
+
+    def test_what_is_erased_is_left_out(self):
+        name = self.listed("K " + hashlib.sha256(b'["P","name"]').hexdigest())
+        self.assertEqual(cadf.omit(name, [A, B]), cadf.join(['{"id":"g","events":[]}']))
+        self.assertEqual(cadf.omit(self.listed(), [A, B]), cadf.join([A, B]))
+        self.refuses(1, "input 1: version", cadf.omit, cadf.sealed(A), [A])
+        self.refuses(1, "no log named", cadf.omit, name, [])
+
+    @staticmethod
+    def listed(*lines):
+        """The erased list with these lines."""
+        text = "".join(line + "\n" for line in ("CADF-ERASED 1", 'L "g"', *lines)).encode()
+        return text + b"Z %s\n" % hashlib.sha256(text).hexdigest().encode()
+
     def test_a_sketch_gives_the_same_delta(self):
         delta, sketch = cadf.missing(A, B), cadf.sketch(B)
         self.assertEqual(cadf.missing_by_sketch(A, sketch), delta)
