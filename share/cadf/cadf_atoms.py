@@ -11,8 +11,8 @@ from cadf_toolkit import check_end, check_written, naming_temporary, opened, sta
 LONGEST_FIRST = 2 ** 14  # bytes in which a first line is looked for
 
 
-def joined(inputs, *options):
-    """Yields the line of the log that the files name, and then the atoms of their union in their order."""
+def joined(inputs, *options, is_whole=None):
+    """Yields the line of the log that the files name, and then the atoms of their union in their order, as cadf_logs.atoms has them."""
     with started_cadf(["join", *options], inputs, subprocess.PIPE) as child:
         first = child.stdout.readline(LONGEST_FIRST)
         if not first:
@@ -20,7 +20,7 @@ def joined(inputs, *options):
         check_written("join", first)
         yield next(child.stdout, b"")
         try:
-            yield from cadf_logs.atoms(child.stdout)
+            yield from cadf_logs.atoms(child.stdout, is_whole)
         except (TypeError, ValueError):  # the text ends too soon, or is another program's
             child.stdout.close()
             check_end(child, child.stderr.read(), inputs)
@@ -28,19 +28,20 @@ def joined(inputs, *options):
         check_end(child, child.stderr.read(), inputs)
 
 
-def atoms_in(inputs, *options):
-    """Yields the atoms of open files together, in their order."""
-    return itertools.islice(joined(inputs, *options), 1, None)
+def atoms_in(inputs, *options, is_whole=None):
+    """Yields the atoms of open files together, in their order, as cadf_logs.atoms has them."""
+    return itertools.islice(joined(inputs, *options, is_whole=is_whole), 1, None)
 
 
-def held(name, wanted, damaged, keys=(), options=()):
+def held(name, wanted, damaged, keys=(), options=(), is_whole=None):
     """Yields the line of the log that a file or a folder names, and then what `wanted` yields of its atoms, those of a key in their order.
 
     Of a folder that has an index only those keys of events are read that have several bodies, or are these. `damaged` gets the parts that are left out.
+    `is_whole` says of which keys more is read than values.
     """
     if not is_folder(name):
         with opened([name]) as inputs:
-            atoms = joined(inputs, *options)
+            atoms = joined(inputs, *options, is_whole=is_whole)
             yield next(atoms)
             yield from wanted(atoms)
         return
@@ -49,17 +50,17 @@ def held(name, wanted, damaged, keys=(), options=()):
         if found:
             with opened(found.names) as inputs:
                 yield found.head
-                yield from wanted(atoms_in(inputs, *options))
+                yield from wanted(atoms_in(inputs, *options, is_whole=is_whole))
             return
 
         def made(windows, _, inputs):
-            atoms = atoms_in(inputs, *options)
+            atoms = atoms_in(inputs, *options, is_whole=is_whole)
             return list(wanted(atom for atom in atoms if atom[0] != "E" or not windows.common or spelled(atom[1]) not in windows.common))
 
         windows = Windows(name, cadf_logs.Range(None, None), folder, made)
         damaged.update(windows.damaged)
         yield windows.head
         yield from itertools.chain.from_iterable(windows.made.values())
-        for fact in windows.facts:
-            with opened([fact]) as facts:
-                yield from wanted(atoms_in(facts, *options))
+        for names in windows.facts:
+            with opened(names) as facts:
+                yield from wanted(atoms_in(facts, *options, is_whole=is_whole))

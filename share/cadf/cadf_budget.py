@@ -4,6 +4,7 @@ What is here is called in a process that has just been started, before it is the
 """
 import resource
 import struct
+import time
 
 import cadf_toolkit
 from cadf_toolkit import OUT_OF_MEMORY, whole_number
@@ -49,6 +50,13 @@ def change_only(folder):
 
 
 # ---- A tool's own programs
+
+def seconds_spent():
+    """The processor time of this program, and of all that it has started and that have ended."""
+    found = resource.getrusage(resource.RUSAGE_CHILDREN)
+    return found.ru_utime + found.ru_stime + time.process_time()
+
+
 
 def add_budget(parser):
     """Adds the options of what each `cadf` may spend that the tool starts."""

@@ -2,8 +2,8 @@
 
 It is an SQLite file that is made of the windows alone, so it may be removed at any time, and a call without it gives the same answer.
 Of each body of an event it has a row: the window, 16 bytes of the digest of its key, its instant, and what a pattern may match of
-it, by numbers of texts. No instant and the number 0 stand for what isn't known: such a row may answer any question. So who looks in
-the files for what the index names lacks nothing, and what is shown is what the files have.
+it, by numbers of texts, which each column has of its own. No instant and the number 0 stand for what isn't known: such a row may
+answer any question. So who looks in the files for what the index names lacks nothing, and what is shown is what the files have.
 
 cadf_index_file has where it is, and whether it is trusted.
 """
@@ -11,10 +11,12 @@ import collections
 import contextlib
 import functools
 import hashlib
+import itertools
 import json
 import operator
 import os
 import sqlite3
+from json.encoder import encode_basestring
 from typing import NamedTuple
 
 from cadf_children import usable
@@ -25,28 +27,32 @@ from cadf_site import CHANGED, DAMAGED, SHARED, TRIES, made_or_left_out, opened_
 from cadf_times import SECOND
 from cadf_toolkit import REFUSED, Fault, Progress
 
-APPLICATION, VERSION = int.from_bytes(b"CADF", "big"), 1
+APPLICATION, VERSION = int.from_bytes(b"CADF", "big"), 2
 COLUMNS = ("initiator", "target", "others")  # of bodies, with numbers of texts
+IS_KNOWN = "(second IS NOT NULL AND initiator AND target AND others)"  # all of a body
 SCHEMA = [
     "CREATE TABLE windows (id INTEGER PRIMARY KEY, name TEXT NOT NULL UNIQUE, files BLOB NOT NULL, bytes INTEGER NOT NULL)",
-    "CREATE TABLE texts (id INTEGER PRIMARY KEY, hash INTEGER NOT NULL, text TEXT NOT NULL)",
-    "CREATE INDEX texts_by_hash ON texts (hash)",
+    *("CREATE TABLE %s_texts (id INTEGER PRIMARY KEY, hash INTEGER NOT NULL, text TEXT NOT NULL)" % column for column in COLUMNS),
+    *("CREATE INDEX %s_texts_by_hash ON %s_texts (hash)" % (column, column) for column in COLUMNS),
     "CREATE TABLE several (key BLOB PRIMARY KEY) WITHOUT ROWID",
     "CREATE TABLE bodies (window INTEGER NOT NULL, key BLOB NOT NULL, second INTEGER, nanosecond INTEGER NOT NULL,"
     " initiator INTEGER NOT NULL, target INTEGER NOT NULL, others INTEGER NOT NULL)",
     "CREATE INDEX bodies_by_window ON bodies (window)",
     "CREATE INDEX bodies_by_key ON bodies (key, window)",
+    "CREATE INDEX bodies_unknown ON bodies (window) WHERE NOT " + IS_KNOWN,
     *("CREATE INDEX bodies_by_%s ON bodies (%s, window)" % (column, column) for column in COLUMNS),
     "CREATE TABLE places (key BLOB NOT NULL, window INTEGER NOT NULL, digest TEXT NOT NULL, begin INTEGER NOT NULL, length INTEGER NOT NULL,"
     " hash BLOB NOT NULL, PRIMARY KEY (key, window, digest)) WITHOUT ROWID",
+    "CREATE INDEX places_by_window ON places (window)",
     "CREATE TABLE kept (kind TEXT NOT NULL, files BLOB NOT NULL, value TEXT NOT NULL, bytes INTEGER NOT NULL, read INTEGER NOT NULL,"
     " PRIMARY KEY (kind, files)) WITHOUT ROWID"]
-PRAGMAS = ("trusted_schema = off", "secure_delete = on", "temp_store = memory", "cell_size_check = on", "cache_size = -16384")
-IS_KNOWN = "(second IS NOT NULL AND initiator AND target AND others)"  # all of a body
-OF_SEVERAL = "(SELECT bodies.* FROM several CROSS JOIN bodies ON bodies.key = several.key)"  # the rows of keys with several bodies, by these
+PRAGMAS = ("trusted_schema = off", "secure_delete = on", "temp_store = memory", "cell_size_check = on", "cache_size = -14336")
+# The rows of keys with several bodies in the windows that are asked for, by these.
+OF_SEVERAL = ("(SELECT bodies.* FROM asked_windows CROSS JOIN places ON places.window = asked_windows.id"
+              " CROSS JOIN bodies ON bodies.key = places.key AND bodies.window = places.window GROUP BY bodies.rowid)")
 KEY_BYTES, LONGEST_TEXT, LARGEST_BODY = 16, 2 ** 12, 2 ** 24
 ROWS_AT_ONCE, PATTERNS_AT_ONCE = 2 ** 14, 64
-DECODE, ENCODE = json.JSONDecoder().raw_decode, json.JSONEncoder(ensure_ascii=False).encode  # made once: that takes as long as a use
+DECODE = json.JSONDecoder().raw_decode  # made once: that takes as long as a use
 MALFORMED = (*UNREADABLE, AttributeError, KeyError, TypeError)
 
 
@@ -67,7 +73,10 @@ def files_of(digests):
 # ---- What a window has
 
 class Window(NamedTuple):
-    """What was read of a window: the digests of its files, their bytes, texts, rows of bodies with their numbers from 1 on, and by key where its lines are."""
+    """What was read of a window: the digests of its files, their bytes, the texts of each column with their hashes, rows of bodies with numbers of these, and by key where its lines are.
+
+    Numbers count the texts of a column from 1 on.
+    """
     digests: list
     size: int
     texts: list
@@ -86,7 +95,11 @@ def located(files):
 
 
 def hash_of(lines):
-    return hashlib.sha256(lines).digest()[:KEY_BYTES]
+    return hashlib.blake2b(lines, digest_size=KEY_BYTES).digest()
+
+
+def hash_of_text(text):
+    return int.from_bytes(hashlib.sha256(text.encode()).digest()[:8], "big", signed=True)
 
 
 def lines_at(each, begin, length, found):
@@ -123,7 +136,7 @@ def opened_window(folder, part):
 
 def read_window(folder, part):
     """Reads a window."""
-    texts, rows, places, bodies = Texts(), [], {}, {}
+    texts, rows, places, bodies = [Texts(party_spelled), Texts(party_spelled), Texts(others_spelled)], [], {}, {}
     with opened_window(folder, part) as files:
         digests, size = list(files), size_of(files)
         for key, lines, place in located(files):
@@ -132,7 +145,7 @@ def read_window(folder, part):
     stands = {key: key_of(key) for key in places}
     for key, own in bodies.items():
         rows += [(stands[key], *row_of(body, steps, texts)) for body, steps in (own or {b"": ()}).items()]
-    return Window(digests, size, texts.texts, rows, {stands[key]: own for key, own in places.items()})
+    return Window(digests, size, [each.texts for each in texts], rows, {stands[key]: own for key, own in places.items()})
 
 
 def places_in(folder, part, files, keys):
@@ -159,42 +172,60 @@ def add_bodies(lines, own):
 
 def value_in(line):
     """The value whose canonical text a node's line has."""
-    return DECODE(DECODE(line.decode())[0][2])[0]
+    line = line.decode()
+    text = DECODE(line)[0][2] if "\\\\" in line else line[line.index('"') + 1:line.rindex('"')].replace('\\"', '"')  # which takes half of the time
+    return DECODE(text)[0]
 
 
 class Texts(dict):
-    """The numbers of texts from 1 on, by what they spell in JSON, as tuples. Many events have the same."""
+    """The numbers of texts from 1 on, by what they spell, as tuples. Many events have the same."""
 
-    def __init__(self):
+    def __init__(self, spell):
         super().__init__()
-        self.texts = []
+        self.spell, self.texts = spell, []
 
     def __missing__(self, found):
-        text = ENCODE(dict(found) if type(found[0]) is tuple else found) if found else "[]"
-        text.encode()
-        self.texts.append(text)
+        text = self.spell(found)
+        self.texts.append((hash_of_text(text), text))
         self[found] = len(self.texts)
         return len(self.texts)
 
 
+def party_spelled(found):
+    """Spells texts as a list of JSON."""
+    return "[%s]" % ",".join(map(encode_basestring, found))
+
+
+def others_spelled(found):
+    """Spells kinds with their texts as an object of JSON."""
+    return "{%s}" % ",".join('"%s":%s' % (kind, party_spelled(own)) for kind, own in found)
+
+
 def row_of(body, steps, texts):
     """The second, nanosecond and numbers of texts of a body that can be read; None and no texts of any other."""
-    with contextlib.suppress(MALFORMED):
-        if sum(map(len, (body, *steps))) <= LARGEST_BODY:
+    try:
+        if len(body) + sum(map(len, steps)) <= LARGEST_BODY:
             event = value_in(body)
-            found = {kind: tuple(own) for kind, own in traits(event, map(value_in, steps)).items()}
-            numbers = [texts[found.pop("initiator")], texts[found.pop("target")], texts[tuple(found.items())]]
-            return (*divmod(instant(event["eventTime"]), SECOND), *numbers)
+            found = traits(event, map(value_in, steps))
+            own = [tuple(found.pop(column)) for column in COLUMNS[:2]] + [tuple((kind, tuple(each)) for kind, each in found.items())]
+            return (*divmod(instant(event["eventTime"]), SECOND), *(numbers[each] for numbers, each in zip(texts, own)))
+    except MALFORMED:
+        pass
     return None, 0, 0, 0, 0
 
 
 # ---- The index
 
+def counted(by):
+    """What rows have in SQL that are counted so."""
+    return by if by in COLUMNS else "second / %d" % LENGTHS[by] if by in LENGTHS else "others"
+
+
 class EventIndex:
     """An index that is open. What isn't as it has to be raises a fault of SQLite's, Untrusted, or one of MALFORMED."""
 
     def __init__(self, connection):
-        self.connection, self.run, self.numbers = connection, connection.execute, {}
+        self.connection, self.run = connection, connection.execute
         for each in PRAGMAS:
             self.run("PRAGMA " + each)
         if not self.schema():
@@ -253,37 +284,53 @@ class EventIndex:
 
     def put_some(self, folder, batch):
         """Puts the windows of a batch, by their names, of which None is left out."""
-        self.numbers = {}  # another call may have removed texts
         self.run("CREATE TEMP TABLE touched (key BLOB PRIMARY KEY) WITHOUT ROWID")
-        self.run("CREATE TEMP TABLE freed (id INTEGER PRIMARY KEY)")
-        for part, each in batch.items():
-            self.remove(part)
-            if each and each.digests:
-                self.put(part, each)
+        for column in COLUMNS:
+            self.run("CREATE TEMP TABLE freed_%s (id INTEGER PRIMARY KEY)" % column)
+        self.remove(batch)
+        self.put({part: each for part, each in batch.items() if each and each.digests})
         self.run("DELETE FROM several WHERE key IN touched")
         self.run("INSERT INTO several SELECT key FROM bodies WHERE key IN touched GROUP BY key HAVING count(*) > 1")
         self.put_places(folder, batch)
-        self.run("DELETE FROM texts WHERE id IN freed" + "".join(
-            " AND NOT EXISTS (SELECT 1 FROM bodies WHERE %s = texts.id)" % column for column in COLUMNS))
-        for name in ("touched", "freed"):
+        for name in ("touched", "gone"):
             self.run("DROP TABLE temp." + name)
+        for column in COLUMNS:
+            self.run("DELETE FROM {0}_texts WHERE id IN freed_{0} AND NOT EXISTS (SELECT 1 FROM bodies WHERE {0} = {0}_texts.id)".format(column))
+            self.run("DROP TABLE temp.freed_%s" % column)
 
-    def remove(self, part):
-        for number, in self.run("SELECT id FROM windows WHERE name = ?", (part,)).fetchall():
-            self.run("INSERT OR IGNORE INTO touched SELECT key FROM bodies WHERE window = ?", (number,))
-            for column in COLUMNS:
-                self.run("INSERT OR IGNORE INTO freed SELECT %s FROM bodies WHERE window = ?" % column, (number,))
-            self.run("DELETE FROM places WHERE window = ? AND key IN touched", (number,))
-            self.run("DELETE FROM bodies WHERE window = ?", (number,))
-            self.run("DELETE FROM windows WHERE id = ?", (number,))
+    def remove(self, parts):
+        """Removes the rows of windows. Only keys with several bodies may have fewer then; other rows change nothing of other windows."""
+        self.run("CREATE TEMP TABLE gone (id INTEGER PRIMARY KEY)")
+        self.connection.executemany("INSERT INTO gone SELECT id FROM windows WHERE name = ?", ((part,) for part in parts))
+        self.run("INSERT OR IGNORE INTO touched SELECT key FROM bodies WHERE window IN gone AND key IN several")
+        for column in COLUMNS:
+            self.run("INSERT OR IGNORE INTO freed_{0} SELECT DISTINCT {0} FROM bodies WHERE window IN gone".format(column))
+        self.run("DELETE FROM places WHERE key IN touched AND window IN gone")
+        self.run("DELETE FROM bodies WHERE window IN gone")
+        self.run("DELETE FROM windows WHERE id IN gone")
 
-    def put(self, part, each):
-        """Puts the rows of a window."""
-        window = self.run("INSERT INTO windows (name, files, bytes) VALUES (?, ?, ?)", (part, files_of(each.digests), each.size)).lastrowid
-        numbers = [0, *map(self.number_of, each.texts)]
-        self.connection.executemany("INSERT INTO bodies VALUES (?, ?, ?, ?, ?, ?, ?)", (
-            (window, key, second, nanosecond, *(numbers[own] for own in texts)) for key, second, nanosecond, *texts in each.rows))
-        self.connection.executemany("INSERT OR IGNORE INTO touched VALUES (?)", ((row[0],) for row in each.rows))
+    def put(self, batch):
+        """Puts the rows of windows, by the names of these, in the order of the trees that they come to, in which others are far apart."""
+        numbers = [self.numbers_of(column, {each for own in batch.values() for each in own.texts[place]}) for place, column in enumerate(COLUMNS)]
+        rows = []
+        for part, each in batch.items():
+            window = self.run("INSERT INTO windows (name, files, bytes) VALUES (?, ?, ?)", (part, files_of(each.digests), each.size)).lastrowid
+            initiators, targets, others = ([0, *map(found.get, texts)] for found, texts in zip(numbers, each.texts))
+            rows += [(window, key, second, nanosecond, initiators[initiator], targets[target], others[other])
+                     for key, second, nanosecond, initiator, target, other in each.rows]
+        rows.sort(key=operator.itemgetter(1))
+        twice = (row[1:2] for row, after in zip(rows, itertools.islice(rows, 1, None)) if row[1] == after[1])
+        self.connection.executemany("INSERT OR IGNORE INTO touched VALUES (?)", twice)
+        self.connection.executemany("INSERT OR IGNORE INTO touched SELECT key FROM bodies WHERE key = ?", (row[1:2] for row in rows))
+        self.connection.executemany("INSERT INTO bodies VALUES (?, ?, ?, ?, ?, ?, ?)", rows)
+
+    def numbers_of(self, column, texts):
+        """The numbers of texts of a column with their hashes, which they may get now; 0 of one that isn't kept."""
+        found, look, add = {}, *(each.format(column) for each in ("SELECT id FROM {}_texts WHERE hash = ? AND text = ?", "INSERT INTO {}_texts (hash, text) VALUES (?, ?)"))
+        for words in sorted(texts):
+            known = self.run(look, words).fetchone() if len(words[1]) <= LONGEST_TEXT else [0]
+            found[words] = known[0] if known else self.run(add, words).lastrowid
+        return found
 
     def put_places(self, folder, batch):
         """Puts where the lines of touched keys are that have several bodies now. Of windows that aren't in the batch these are looked for."""
@@ -297,16 +344,6 @@ class EventIndex:
             self.connection.executemany("INSERT INTO places VALUES (?, ?, ?, ?, ?, ?)", (
                 (key, number, *place) for key in keys for place in places.get(key, ())))
 
-    def number_of(self, text):
-        """The number of a text, which it may get now; 0 of one that isn't kept."""
-        if text is None or len(text) > LONGEST_TEXT:
-            return 0
-        if text not in self.numbers:
-            words = int.from_bytes(hashlib.sha256(text.encode()).digest()[:8], "big", signed=True), text
-            found = self.run("SELECT id FROM texts WHERE hash = ? AND text = ?", words).fetchone()
-            self.numbers[text] = found[0] if found else self.run("INSERT INTO texts (hash, text) VALUES (?, ?)", words).lastrowid
-        return self.numbers[text]
-
     # Whether it has what the windows have
 
     def has_read(self, part, each):
@@ -314,15 +351,16 @@ class EventIndex:
         found = self.run("SELECT id, files, bytes FROM windows WHERE name = ?", (part,)).fetchone()
         if found is None or found[1] != files_of(each.digests):
             return True
-        texts = dict(enumerate([None, *(text if len(text) <= LONGEST_TEXT else None for text in each.texts)]))
+        texts = [[None, *(text if len(text) <= LONGEST_TEXT else None for _, text in own)] for own in each.texts]
         rows = self.run("SELECT key, second, nanosecond, %s FROM bodies %s WHERE window = ?" % (
-            ", ".join("%s.text" % column for column in COLUMNS), " ".join("LEFT JOIN texts AS {0} ON {0}.id = bodies.{0}".format(column) for column in COLUMNS)), found[:1])
+            ", ".join("%s_texts.text" % column for column in COLUMNS),
+            " ".join("LEFT JOIN {0}_texts ON {0}_texts.id = bodies.{0}".format(column) for column in COLUMNS)), found[:1])
         own = "(SELECT key FROM bodies WHERE window = ?)"
         counted = self.run("SELECT key FROM bodies WHERE key IN %s GROUP BY key HAVING count(*) > 1" % own, found[:1]).fetchall()
         several = self.run("SELECT key FROM several WHERE key IN %s" % own, found[:1]).fetchall()
         places = self.run("SELECT key, digest, begin, length, hash FROM places WHERE window = ?", found[:1]).fetchall()
         return (found[2] == each.size and set(counted) == set(several)
-                and collections.Counter(rows) == collections.Counter((*row[:3], *map(texts.get, row[3:])) for row in each.rows)
+                and collections.Counter(rows) == collections.Counter((*row[:3], *(own[number] for own, number in zip(texts, row[3:]))) for row in each.rows)
                 and set(places) == {(key, *place) for key, in counted for place in each.places[key]})
 
     # What it says of a question
@@ -330,6 +368,9 @@ class EventIndex:
     def ask(self, question):
         """Prepares what is asked. The identifiers of a question are left to who reads the files, unless all are whole."""
         self.where, self.words = ["1"], []
+        self.run("CREATE TEMP TABLE asked_windows (id INTEGER PRIMARY KEY)")
+        self.run("INSERT INTO asked_windows SELECT id FROM windows WHERE name BETWEEN substr(?, 1, length(name)) AND substr(?, 1, length(name))",
+                 ("" if question.limits.first is None else utc(question.limits.first), "~" if question.limits.until is None else utc(question.limits.until - 1)))
         for column in COLUMNS:
             kind = next((kind for kind in question.patterns if (kind if kind in ("id", *COLUMNS) else "others") == column), None)
             if kind:
@@ -352,7 +393,7 @@ class EventIndex:
         yield 0
         least = [pattern.longest() for pattern in question.patterns[kind]]
         least = least if len(least) <= PATTERNS_AT_ONCE else [""]
-        for number, text in self.run("SELECT id, text FROM texts WHERE " + " OR ".join(["instr(text, ?)"] * len(least)), least).fetchall():
+        for number, text in self.run("SELECT id, text FROM %s_texts WHERE %s" % (column, " OR ".join(["instr(text, ?)"] * len(least))), least).fetchall():
             found = json.loads(text)
             found = found if column == "others" else {column: found}
             if isinstance(found, dict) and question.has_traits(found):
@@ -370,26 +411,27 @@ class EventIndex:
 
     def keys_unknown(self):
         """The keys of bodies that may answer and of which something isn't known, by window."""
-        return self.keys_by_window("bodies", "NOT " + IS_KNOWN)
+        return self.keys_by_window("bodies", "window IN asked_windows AND NOT " + IS_KNOWN)
 
     def keys_by_window(self, rows, test):
         found, names = collections.defaultdict(set), dict(self.run("SELECT id, name FROM windows"))
-        for window, key in self.run("SELECT DISTINCT +window, +key FROM %s WHERE %s AND %s" % (rows, " AND ".join(self.where), test), self.words):
+        for window, key in self.run("SELECT +window, +key FROM %s WHERE %s AND %s" % (rows, test, " AND ".join(self.where)), self.words):
             found[names[window]].add(key)
         return found
 
     def several(self):
-        """The keys that have several bodies, each with the windows that it is in."""
-        found = collections.defaultdict(set)
-        for key, part in self.run("SELECT key, name FROM bodies JOIN windows ON windows.id = window WHERE key IN several"):
-            found[key].add(part)
-        return dict(found)
+        """The keys that have several bodies."""
+        return {key for key, in self.run("SELECT key FROM several")}
+
+    def windows_of_several(self):
+        """The windows that keys with several bodies are in."""
+        return {part for part, in self.run("SELECT DISTINCT name FROM places JOIN windows ON windows.id = window")}
 
     def places(self, keys):
         """Where the lines of keys with several bodies are: by window and file their places there, by key."""
         found = collections.defaultdict(dict)
-        for key, part, digest, *place in self.run("SELECT key, name, digest, begin, length, hash FROM places JOIN windows ON windows.id = window"):
-            if key in keys:
+        for each in keys:
+            for key, part, digest, *place in self.run("SELECT key, name, digest, begin, length, hash FROM places JOIN windows ON windows.id = window WHERE key = ?", (each,)):
                 found[part, digest][key] = place
         return dict(found)
 
@@ -399,20 +441,34 @@ class EventIndex:
 
     def windows_with(self, key):
         """The windows that a key is in."""
-        return [part for part, in self.run("SELECT DISTINCT name FROM bodies JOIN windows ON windows.id = window WHERE key = ?", (key,))]
+        return {part for part, in self.run("SELECT name FROM bodies JOIN windows ON windows.id = window WHERE key = ?", (key,))}
 
     def counts(self, by, of_bodies=False):
         """How many events answer, of those that can be counted, by an hour or a day, or by what they have for a pattern of this kind first; or how many bodies may."""
-        column, counts = by if by in COLUMNS else "second / %d" % LENGTHS[by] if by in LENGTHS else "others", collections.Counter()
-        numbers, tests = collections.Counter(), " AND ".join([*self.where, "second IS NOT NULL" if of_bodies else IS_KNOWN])
+        counts, test = collections.Counter(), "window IN asked_windows AND " + ("second IS NOT NULL" if of_bodies else IS_KNOWN)
         # To take away those of several costs less than to look for each key among them, and to count here less than to have SQLite sort.
-        for rows, change in (("bodies", numbers.update), *(() if of_bodies else ((OF_SEVERAL, numbers.subtract),))):
-            change(map(operator.itemgetter(0), self.run("SELECT %s FROM %s WHERE %s" % (column, rows, tests), self.words)))
-        for number, count in (+numbers).items():
+        for rows, change in (("bodies", counts.update), *(() if of_bodies else ((OF_SEVERAL, counts.subtract),))):
+            change(map(operator.itemgetter(0), self.run("SELECT %s FROM %s WHERE %s AND %s" % (counted(by), rows, test, " AND ".join(self.where)), self.words)))
+        return self.by_value(by, +counts)
+
+    def counts_of_several(self, by, but):
+        """How many bodies answer, of keys with several, but for some keys, by the same; and of how many keys they are."""
+        counts, keys = collections.Counter(), set()
+        for key, number in self.run("SELECT key, %s FROM %s WHERE %s" % (counted(by), OF_SEVERAL, " AND ".join(self.where)), self.words):
+            if key not in but:
+                counts[number] += 1
+                keys.add(key)
+        return self.by_value(by, counts), len(keys)
+
+    def by_value(self, by, numbers):
+        """Counts by numbers, as `counted` has them, by what these stand for."""
+        counts = collections.Counter()
+        for number, count in numbers.items():
             if by in LENGTHS:
                 counts[utc(number * LENGTHS[by] * SECOND)] = count
             else:
-                found = json.loads(self.run("SELECT text FROM texts WHERE id = ?", (number,)).fetchone()[0])
+                column = by if by in COLUMNS else "others"
+                found = json.loads(self.run("SELECT text FROM %s_texts WHERE id = ?" % column, (number,)).fetchone()[0])
                 counts[(found if by in COLUMNS else found[by])[0]] += count
         return counts
 
@@ -434,6 +490,15 @@ class EventIndex:
             self.run("UPDATE windows SET files = ?, bytes = ? WHERE name = ? AND files = ? AND id NOT IN (SELECT window FROM places)",
                      (after, size, part, before))
             self.run("UPDATE OR REPLACE kept SET files = ?, bytes = ? WHERE files = ?", (after, size, before))
+
+    def forget_others(self, folder):
+        """Has nothing of windows that the folder's `site` doesn't name, and keeps nothing of other files."""
+        parts = folder.site().parts()
+        wanted = {files_of(files) for files in parts.values()}
+        with self.changing():
+            self.put_some(folder, {part: None for part, in self.run("SELECT name FROM windows").fetchall() if part not in parts})
+            others = [each for each, in self.run("SELECT DISTINCT files FROM kept") if each not in wanted]
+            self.connection.executemany("DELETE FROM kept WHERE files = ?", ((each,) for each in others))
 
     def forget(self, keys, but):
         """Forgets what is kept of these files, but for that kind."""

@@ -180,6 +180,12 @@ def forget(folder, keys, but=""):
         made_by(folder, lambda index, _: index.forget(keys, but), [beside])
 
 
+def forget_others(folder):
+    """Has the index beside an open folder have nothing of windows that went."""
+    if is_there(folder):
+        made_by(folder, lambda index, mode: mode == "rw" and index.forget_others(folder), [beside])
+
+
 def wanted_of(folder):
     """What stands for the files of each part."""
     return {files_of(files) for files in folder.site().parts().values()}

@@ -53,11 +53,16 @@ def keys_in(data, begin=KEY):
         place = after
 
 
-def rulings_in(name):
+def rulings_of(name):
     """Yields the keys of events in a file of rulings, each with its lines."""
     with open(name, "rb") as file:
-        data = undigested(file.read())
-    place = data.find(RULED)
+        yield from rulings_in(undigested(file.read()))
+
+
+def rulings_in(data):
+    """Yields the keys of events on which lines of a file rule, each with its lines."""
+    begin = data.find(RULINGS)
+    place = data.find(RULED, begin) if begin >= 0 else begin
     end = data.find(KEY, place + 1) + 1 or len(data)
     yield from keys_in(data[place:end], RULED_KEY) if place >= 0 else ()
 
@@ -117,8 +122,8 @@ class Files:
 class Windows(Files):
     """What is made of windows of a site that is a folder, as they stood at one moment, and what has to be known of all to make it.
 
-    `common` has the keys that are in several windows, as JSON texts, `facts` the names of replica files that have all of
-    their facts, each key in one file, and `rulings` that of one of all rulings of the site, if there are any. `made` has by
+    `common` has the keys that are in several windows, as JSON texts, `facts` lists of names of replica files that have all of
+    their facts, each key in those of one list, and `rulings` that of one of all rulings of the site, if there are any. `made` has by
     part, in order, what `make` gives of the windows of a range, and of the shared part if that is wanted. It is given this
     object, a part with the digests of its files, and these as inputs. Only those are open meanwhile: a program that is started costs as much as there
     are open files. `damaged` has why parts are left out of all this.
@@ -180,7 +185,7 @@ class Windows(Files):
     def ruled_of(self, keys):
         """The name of a file of the rulings of these keys of events, in a list that is empty if there are none."""
         if self.rulings != self.split[0]:
-            self.split = self.rulings, {key: lines for name in self.rulings for key, lines in rulings_in(name)}
+            self.split = self.rulings, {key: lines for name in self.rulings for key, lines in rulings_of(name)}
         lines = [self.split[1][key] for key in sorted(set(keys) & self.split[1].keys(), key=json.loads)] if self.split[1] else []
         return [self.put([RULINGS[1:], RULED[1:], *lines])] if lines else []
 
@@ -224,14 +229,18 @@ class Windows(Files):
         return {part.decode(): frozenset(keys) for part, keys in found.items() if keys}
 
     def common_facts(self, names):
-        """Yields the names of files that have the facts of the common keys, each key in one file, of those of each window."""
+        """Yields lists of names of files that have the facts of the common keys, each key in those of one list, of those of each window."""
         count = -(-sum(map(os.path.getsize, names)) // LARGEST)
         if count == 1:
-            yield from self.joined(names)
+            yield self.few(names)
             return
         group = {key: place % count for place, key in enumerate(sorted(self.common))}
         for number in range(count):
-            yield from self.joined(list(self.of_group(names, group, number)))
+            yield self.few(list(self.of_group(names, group, number)))
+
+    def few(self, names):
+        """The names of files that hold what these do, of which one call is given all."""
+        return names if len(names) < at_once() else self.joined(names)
 
     def of_group(self, names, group, number):
         """Yields files of what these files hold of the keys of one group."""
@@ -254,7 +263,7 @@ def opened_within(names, limits, folder, folders):
             if is_folder(name):
                 windows = Windows(name, limits, folder, lambda windows, _, inputs: windows.join(inputs))
                 folders.append(windows)
-                together, = windows.joined([windows.put([]), *windows.made.values(), *windows.facts])
+                together, = windows.joined([windows.put([]), *windows.made.values(), *itertools.chain(*windows.facts)])
                 found.append(Input(name, files.enter_context(opened([together]))[0].file))
             else:
                 found += files.enter_context(opened([name]))

@@ -11,6 +11,7 @@ import json
 import mmap
 import operator
 import os
+import secrets
 import tempfile
 from typing import NamedTuple
 
@@ -23,7 +24,7 @@ SHORTEST = len(b'[5,1,"{}"]\n')  # bytes of a line of an event's facts
 NO_EVENT = (ValueError, KeyError, IndexError, TypeError, RecursionError)
 MOST_SAID = 100  # lines of events of which something is left out
 BLOCK = 2 ** 20  # bytes that are copied at once
-LEFT_OUT = "left out by --largest: a body of "  # how the initiator begins of what stands in the place of one
+LEFT_OUT = "left out by --largest, %s: a body of " % secrets.token_hex(16)  # how the initiator begins of what stands in its place, and of no body that was sent
 
 
 def add_largest(parser):

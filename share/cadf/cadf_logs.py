@@ -17,14 +17,14 @@ def instant(text):
     found = TIME.fullmatch(text)
     if not found:
         return None
-    year, month, day, hour, minute, second = (int(part or 0) for part in found.groups()[:6])
+    *parts, fraction, zone = found.groups("0")
+    year, month, day, hour, minute, second = map(int, parts)
     try:
         days = datetime.date(year or YEARS, month, day).toordinal() - (0 if year else DAYS)
     except ValueError:
         return None
-    zone = "+00:00" if found[8] in (None, "Z") else found[8]
-    minutes = hour * 60 + minute - int(zone[0] + "1") * (int(zone[1:3]) * 60 + int(zone[4:]))
-    return ((days * 1440 + minutes) * 60 + second) * 10 ** 9 + int((found[7] or "").ljust(9, "0"))
+    minutes = hour * 60 + minute - (0 if zone in ("0", "Z") else int(zone[0] + "1") * (int(zone[1:3]) * 60 + int(zone[4:])))
+    return ((days * 1440 + minutes) * 60 + second) * 10 ** 9 + int(fraction.ljust(9, "0"))
 
 
 def utc(nanoseconds):
@@ -61,13 +61,20 @@ class Range:
 
 # ---- Reading a replica file
 
-def atoms(lines):
-    """Yields the atoms of a replica file of format 2 in their order, as tuples of texts. ValueError: it has no last line."""
-    atom, line = [], b""
+def atoms(lines, is_whole=None):
+    """Yields the atoms of a replica file of format 2 in their order, as tuples of texts. ValueError: it has no last line.
+
+    Of keys that aren't whole, by a letter and a name, what hangs on values is left out.
+    """
+    atom, line, is_short = [], b"", False
     for line in lines:
         if line.startswith(b"["):
-            depth, mark, text = json.loads(line)
+            if is_short and not line.startswith(VALUES):
+                continue
+            depth, mark, text = PLAIN.raw_decode(line.decode())[0]
             atom[depth - 1:] = [text]
+            if is_whole and depth == 2:
+                is_short = not is_whole(*atom)
             if mark == 1:
                 yield tuple(atom)
     if not line.startswith(b"Z "):
@@ -77,6 +84,7 @@ def atoms(lines):
 # ---- Reading a canonical text value by value
 
 PLAIN = json.JSONDecoder()
+VALUES = b"[1,", b"[2,", b"[3,"  # as lines begin of letters, keys and values
 
 
 class Text:

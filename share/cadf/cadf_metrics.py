@@ -16,11 +16,11 @@ import tempfile
 import time
 
 import cadf_site
-from cadf_index_file import planned
-from cadf_keys import Files, at_once
 from cadf_logs import atoms
+from cadf_plan import picked
 from cadf_rulings import standing
 from cadf_state import seen_rulings
+from cadf_times import EPOCH, SECOND, begin
 from cadf_toolkit import (DIFFERS, DONE, FAILED, MEMORY, REFUSED, Fault, cadf, name_shown, naming, new_file, opened, say, started,
                           temporary_folder, tool)
 
@@ -28,6 +28,7 @@ HELP = {
     "facts_taken_total": "Facts that were taken into the site; of cadf-spool, those that it held before among them.",
     "facts_lacked": "Facts of the other site that the site lacks.",
     "facts_lacked_by_peer": "Facts that the peer lacked when the last run compared.",
+    "windows_not_kept_by_peer": "Windows of the site that the peer keeps no more.",
     "files": "Files of the last run, by what became of them.",
     "set_aside_files": "Files that wait in set-aside/ for a person.",
     "set_aside_bytes": "Bytes of these files and of the reasons beside them.",
@@ -38,6 +39,8 @@ HELP = {
     "oldest_scrub_timestamp_seconds": "When of all whole files the one was read that was not read for longest.",
     "damaged_windows": "Windows of which a file is damaged or gone.",
     "doubtful_windows": "Windows that were repaired by other facts than were lost, until a person removes what was kept.",
+    "kept_from_timestamp_seconds": "When the oldest window begins that the site keeps, but for held ones.",
+    "windows_forgotten_total": "Windows that went.",
     "last_success_timestamp_seconds": "When the last run that succeeded ended.",
 }
 UNSEEN = "ruled keys at which nobody here has looked: `cadf-conflicts --values SITE`, and then `cadf-conflicts --seen SITE`"
@@ -107,13 +110,27 @@ def of_site(name):
     for number, _, count in found:
         if number == "unseen_rulings" and count:
             say("%s: %d %s" % (name_shown(name), count, UNSEEN))
-    return [*found, ("largest_window_bytes", {}, largest_window(name))]
+    return [*found, ("largest_window_bytes", {}, largest_window(name)), *floor(name)]
+
+
+def floor(name):
+    """From when a site keeps, if it forgot something."""
+    if not os.path.lexists(name) or not cadf_site.is_folder(name):
+        return []
+    with cadf_site.Folder(name) as folder:
+        return of_floor(folder.gone().kept) if folder.index() else []
+
+
+def of_floor(kept):
+    """From when on something is kept, if it isn't all."""
+    first = begin(kept.floor) if kept.floor else None
+    return [] if first is None else [("kept_from_timestamp_seconds", {}, first // SECOND - EPOCH // SECOND)]
 
 
 def conflicts(name):
     """How many conflicts are open in a site; of a folder also how many ruled keys nobody here has looked at, as they are now.
 
-    Of a folder those windows are read alone of which the index says that they may have some.
+    Of a folder those keys are read alone of which the index says that they may have some.
     """
     if not os.path.lexists(name):
         return [("open_conflicts", {}, 0)]
@@ -128,15 +145,10 @@ def conflicts(name):
 
 def indexed_conflicts(site, folder):
     """How many keys are open in an open folder, and what stands for the ruled ones. None: there is no index."""
-    parts = planned(site, lambda index, _: {cadf_site.SHARED}.union(*index.several().values()))
-    if parts is None:
+    found = picked(site, (), folder, with_records=False)
+    if found is None:
         return None
-    if sum(len(site.site().digests(part)) for part in parts) <= at_once():
-        with cadf_site.opened_parts(site, parts) as (_, inputs):
-            return shown_conflicts(list(inputs.values()))
-    files = Files(folder)
-    made = cadf_site.made_of_parts([site], parts, lambda _, found: [files.join(list(found.values()))] if found else [])
-    with opened(files.joined([each for names in made.values() for each in names])) as inputs:
+    with opened(found.names) as inputs:
         return shown_conflicts(inputs)
 
 

@@ -7,11 +7,11 @@ import contextlib
 import functools
 import json
 import os
+from collections import Counter
 
-import cadf_index
-from cadf_index import KEY_BYTES, check_read, key_of, lines_at
-from cadf_index_file import planned
-from cadf_keys import NODES, RULINGS, Windows, at_once, contents, keys_in, rulings_in, spelled
+from cadf_index import KEY_BYTES, check_read, files_of, key_of, lines_at, located
+from cadf_index_file import keep, planned
+from cadf_keys import NODES, RULINGS, Windows, at_once, contents, keys_in, rulings_in, rulings_of, spelled
 from cadf_logs import Range
 from cadf_question import Pattern, Question
 from cadf_rulings import ACTION
@@ -19,12 +19,20 @@ from cadf_site import CHANGED, SHARED, TRIES, opened_parts
 from cadf_toolkit import Fault, grouped, most_files, opened
 
 MOST_BYTES, MOST_FILES = 2 ** 22, 64  # that are shown at a call, of many windows
+RECORDS = "records 1"  # the kind under which the index keeps where records of rulings are
 OTHERS = 64  # files that are open beside those of a site
 
 
 def lines_of(each, places):
     """Yields the lines at the places of keys in an open file, in the file's order."""
     return (lines_at(each, *place) for place in sorted(places.values()))
+
+
+def ruled_in(folder):
+    """The keys of events on which an open folder has rulings, as an index has them."""
+    with folder.leaving_out(SHARED), opened_parts(folder, [SHARED]) as (_, inputs):
+        return {key_of(key) for (_, digest), each in inputs.items() for key, _ in rulings_in(contents(digest, each))}
+    return set()
 
 
 def keys_of(joined):
@@ -35,7 +43,8 @@ def keys_of(joined):
 class Plan(Windows):
     """The windows of a folder that may answer, in order of time, each with its keys, or None if all of it has to be shown.
 
-    `counts` has what the index has counted, if that was asked: all else is then of what it can't count.
+    `counts` has what the index has counted, if that was asked, of events and of bodies that contradict, and of how many keys these are: all else is
+    then of what it can't count, and of keys that are ruled on.
     """
 
     def __init__(self, folder, question, count_by, is_only_open, working, index, site):
@@ -43,20 +52,25 @@ class Plan(Windows):
         self.site_folder, self.damaged = folder, folder.damaged
         self.question, self.site, self.unit, self.head, self.split = question, site, site.unit, b"L %s\n" % site.log.encode(), ([], {})
         index.ask(question)
-        self.counts = index.counts(count_by) if count_by and question.is_indexed and not is_only_open else None
         is_narrow = bool(question.patterns.keys() - (set() if question.has_ids else {"id"}))
-        self.keys, several, known, of_several = {}, set(), index.several(), index.keys_of_several()
-        unknown = {} if self.counts is None else index.keys_unknown()
+        self.keys, several, of_several, self.counts = {}, set(), index.keys_of_several(), None
+        if count_by and question.is_indexed:
+            shown = index.keys_unknown()
+            apart = set().union(ruled_in(folder), *shown.values()) if of_several else set()
+            self.counts = (Counter() if is_only_open else index.counts(count_by), *index.counts_of_several(count_by, apart))
+            of_several = {part: keys & apart for part, keys in of_several.items()}
         for part in self.within(question.limits, [part for part in site.parts() if part != SHARED]):
             own = of_several.get(part, set())
-            if is_only_open or self.counts is not None:
-                keys = b"".join(own | unknown.get(part, set()))
+            if self.counts is not None:
+                keys = b"".join(own if is_only_open else own | shown.get(part, set()))
+            elif is_only_open:
+                keys = b"".join(own)
             else:
                 keys = index.keys(part) if is_narrow else None
             if keys != b"":
                 self.keys[part] = keys
                 several |= own
-        self.several = {key: known[key] for key in several}
+        self.several = {key: index.windows_with(key) for key in several}
         self.apart = {key for key, parts in self.several.items() if len(parts) > 1}
         self.open = {part for parts in self.several.values() if len(parts) == 1 for part in parts}
         self.places, self.sizes = index.places(several), index.sizes()
@@ -85,7 +99,7 @@ class Plan(Windows):
         self.common, self.rulings = frozenset(texts), self.joined(rulings)
         self.facts = list(self.common_facts(names))
         self.ruled_in = {}  # the keys that are in one window and have several bodies
-        for key in (key for name in self.rulings for key, _ in rulings_in(name)):
+        for key in (key for name in self.rulings for key, _ in rulings_of(name)):
             parts = self.several.get(key_of(key), ())
             if len(parts) == 1:
                 self.ruled_in.setdefault(*parts, []).append(key)
@@ -160,24 +174,36 @@ def plan_of(folder, *words):
 
 
 class Picked(Windows):
-    """What a site has of those keys of events that have several bodies or are wanted, of records of rulings, and of no event, as `names` of replica files."""
+    """What a site has of those keys of events that have several bodies or are wanted, of records of rulings, and of no event, as `names` of replica files.
 
-    def __init__(self, wanted, working, index, site):
+    Without records only the windows are opened that have such keys.
+    """
+
+    def __init__(self, wanted, with_records, working, index, site):
         super(Windows, self).__init__(working)
         self.site, self.head, self.names = site, b"L %s\n" % site.log.encode(), []
-        self.places, self.sizes, self.keys, several = index.places(index.several()), index.sizes(), {}, index.several().keys()
+        several = index.several()
+        self.places, self.sizes, self.keys = index.places(several), index.sizes(), {}
         for key in wanted - several:
             for part in index.windows_with(key):
                 self.keys.setdefault(part, set()).add(key)
-        index.ask(Question(Range(None, None), {"action": [Pattern(ACTION)]}))
-        for part in site.parts():
-            self.keys.setdefault(part, set()).update(keys_of(index.keys(part)) - several)
-        self.keys = {part: keys for part, keys in self.keys.items() if keys}
+        self.records, self.new = {}, {}  # where the lines of records are in windows, as was noted or is found; of each file a list
+        if with_records:
+            index.ask(Question(Range(None, None), {"action": [Pattern(ACTION)]}))
+            noted = index.kept(RECORDS)
+            for part, digests in site.parts().items():
+                own = keys_of(index.keys(part))
+                known = places_noted(noted.get(files_of(digests)), digests) if own else {}
+                if known is not None:
+                    self.records[part] = known
+                else:
+                    self.new[part] = own, {digest: [] for digest in digests}
+        self.parts = {part: digests for part, digests in site.parts().items() if with_records or part in {SHARED, *self.keys, *(part for part, _ in self.places)}}
 
     def take(self, folder):
         """Takes what it needs of the folder's files, of one part after another. Returns whether they are those that the index names, and could be read."""
         found, size, self.names = {}, 0, [self.put([])]
-        for part, digests in self.site.parts().items():
+        for part, digests in self.parts.items():
             with folder.leaving_out(part), opened_parts(folder, [part]) as (_, inputs):
                 folder.check(part)
                 files = {digest: each for (_, digest), each in inputs.items()}
@@ -196,20 +222,35 @@ class Picked(Windows):
                 found, size = {}, 0
         self.names += self.put_layers(found)
         self.names = self.names if len(self.names) <= at_once() else self.joined(self.names)
+        keep(folder, RECORDS, {files_of(own): (json.dumps(own), self.sizes[part], 0) for part, (_, own) in self.new.items() if part not in folder.damaged})
         return folder.damaged.keys().isdisjoint(self.site.parts())
 
     def lines_in(self, part, digest, each):
-        """Yields the lines of each key in a window's file."""
+        """Yields the lines of each key in a window's file. Where those of its records are is noted, so that it isn't read whole again for them."""
         yield from lines_of(each, self.places.get((part, digest), {}))
-        if part in self.keys:
-            yield from (lines for key, lines in keys_in(contents(digest, each)) if key_of(key) in self.keys[part])
+        for begin, length, found in self.records.get(part, {}).get(digest, ()):
+            yield lines_at(each, begin, length, found)
+        if part in self.keys or part in self.new:
+            records, places = self.new.get(part, (frozenset(), {}))
+            for key, lines, (_, begin, length, found) in located({digest: each}):
+                stands = key_of(key)
+                if stands in records:
+                    places[digest].append((begin, length, found.hex()))
+                if stands in records or stands in self.keys.get(part, ()):
+                    yield lines
 
 
-def picked(folder, keys, working):
+def places_noted(row, digests):
+    """Where lines are in files, by digest, as a row of what is kept says; None if there is none, or it is of other files that had the same facts."""
+    found = {} if row is None else {digest: [(begin, length, bytes.fromhex(own)) for begin, length, own in places] for digest, places in json.loads(row[0]).items()}
+    return found if found.keys() == set(digests) else None
+
+
+def picked(folder, keys, working, with_records=True):
     """What an open folder has of these keys of events, and of those that have several bodies: Picked, or None where there is no index."""
     wanted = {key_of(spelled(key)) for key in keys}
     for _ in range(TRIES):
-        found = planned(folder, functools.partial(Picked, wanted, working))
+        found = planned(folder, functools.partial(Picked, wanted, with_records, working))
         if found is None or found.take(folder):
             return found
     raise Fault(CHANGED % folder.shown())

@@ -83,15 +83,15 @@ def spelled(text):
 
 # ---- What an event has
 
-def texts(*values):
-    return [each for each in values if isinstance(each, str)]
+def texts(value):
+    return [value] if isinstance(value, str) else []
 
 
 def party(holder, role):
     """The identifiers of what has a role in an event or a step, and its name."""
-    found = holder.get(role)
-    own = found if isinstance(found, dict) else {}
-    return texts(own.get("id"), holder.get(role + "Id"), own.get("name"))
+    own = holder.get(role)
+    found = (own.get("id"), holder.get(role + "Id"), own.get("name")) if isinstance(own, dict) else (holder.get(role + "Id"),)
+    return [each for each in found if isinstance(each, str)]
 
 
 def steps(event):

@@ -11,6 +11,7 @@ import subprocess
 import tempfile
 
 import cadf_site
+from cadf_gone import ALL
 from cadf_link import Store
 from cadf_rulings import file_of_atoms
 from cadf_times import chosen, first_within, is_far
@@ -20,7 +21,9 @@ from cadf_welcome import rulings_in, without
 AT_ONCE = 200  # files that are joined at once
 COUNTED = re.compile(rb" atoms (\d+) conflicts \d+\n$")  # what cadf says of a file that it checks
 WHAT_NEXT = ": look at their "
-WHY = "%d new windows beyond the limits", "%d windows out of bounds", "%d far windows that would be read again", "%d rulings that aren't welcome"
+WHY = ("%d new windows beyond the limits", "%d windows out of bounds", "%d far windows that would be read again", "%d windows that the site keeps no more",
+       "%d rulings that aren't welcome")
+BUT_FORGOTTEN = ", but nothing that is older than %s, from where the site keeps: --rest has the others taken"
 THERE = "it is there: name another file by --rest, or move it away"
 
 
@@ -48,10 +51,11 @@ class Parts:
 class Rest:
     """The limits of a take that leaves what is beyond them to files: the limits, the files, and how many inputs in turn each sender has.
 
-    `each` says how many windows each sender may begin, and `begun` afterwards of how many of those that were begun each has events.
+    `each` says how many far windows each sender may begin, and `begun` afterwards of how many of those that were begun each has events.
     `rereads` says how many bytes of far windows that are there each sender may have read again, if there is such a limit, and `reread`
-    afterwards how many each has.
+    afterwards how many each has: those who bring something to one window share its bytes.
     """
+    kept = ALL  # by the site
 
     def __init__(self, name, most, each, bounds, senders, welcome=None, rereads=None):
         self.most, self.each, self.bounds, self.senders, self.welcome, self.rulings = most, each, bounds, senders, welcome, set()
@@ -68,7 +72,11 @@ class Rest:
         return without(file, unwelcome) if unwelcome else None
 
     def is_apart(self, part, is_there):
-        return part != cadf_site.SHARED and not (is_there and self.bounds.has(part) and not self.is_charged(part))
+        return part != cadf_site.SHARED and not (is_there and self.may_be_taken(part) and not self.is_charged(part))
+
+    def may_be_taken(self, part):
+        """Whether a window is kept, and of the times that are taken."""
+        return self.kept.has(part) and self.bounds.has(part)
 
     def is_charged(self, part):
         """Whether who brings something to a window that is there is charged for that."""
@@ -84,7 +92,7 @@ class Rest:
     @contextlib.contextmanager
     def finished(self, taking, inputs):
         """Takes the windows that are chosen, and has the rest on the disk before the site names them. A take that fails leaves no rest."""
-        within = {part for part in self.apart.items if self.bounds.has(part)}
+        within = set(filter(self.may_be_taken, self.apart.items))
         self.sizes = {part: sum(sizes.values()) for part in within for sizes in [taking.sizes(part)] if sizes}
         if len(self.senders) == 1:
             self.apart.put_rulings(taking.index.log, self.rulings)
@@ -92,14 +100,15 @@ class Rest:
         begun = chosen([(within - self.sizes.keys()).intersection(each.items) for each in senders], self.most, self.each)
         again = set().union(*(first_within(self.sizes.keys() & each.items.keys(), self.sizes, most) for each, most in zip(senders, self.rereads or ())))
         taken = begun | again
-        self.begun = [len(begun.intersection(each.items)) for each in senders] or [0] * len(self.senders)
+        self.begun = [len(set(filter(is_far, begun)).intersection(each.items)) for each in senders] or [0] * len(self.senders)
         for part in sorted(taken):
             for item in self.apart.items[part]:
                 with taking.new_file() as output:
                     output.writelines(item.blocks())
                 taking.keep(part, digest_of(item))
         changed = again & taking.changed.keys()  # and not what brings nothing
-        self.reread = [sum(self.sizes[part] for part in changed.intersection(each.items)) for each in senders] or [0] * len(self.senders)
+        shares = {part: self.sizes[part] // sum(part in each.items for each in senders) for part in changed}
+        self.reread = [sum(shares[part] for part in changed.intersection(each.items)) for each in senders] or [0] * len(self.senders)
         left = [{part: items for part, items in each.items.items() if part not in taken} for each in senders]
         try:
             for name, parts, own in zip(self.names, left, senders):
@@ -146,16 +155,17 @@ class Rest:
         if not counted:
             raise another_program("answer of `cadf check`")
         windows = parts.keys() - {cadf_site.SHARED}
-        within, there = sum(map(self.bounds.has, windows)), len(windows & self.sizes.keys())
-        self.left.append((name, int(counted[1]), within - there, len(windows) - within, there, rulings))
+        within, there, kept = sum(map(self.may_be_taken, windows)), len(windows & self.sizes.keys()), sum(map(self.kept.has, windows))
+        self.left.append((name, int(counted[1]), within - there, kept - within, there, len(windows) - kept, rulings))
         sync(os.path.dirname(os.path.abspath(name)))
 
     def tell(self):
         """Says what is left, a line a file. Returns whether there is some."""
         for name, facts, *counts in self.left:
             why = [words % count for count, words in zip(counts, WHY) if count]
-            what = "times" if any(counts[:3]) else "keys"
-            say("%s: %d facts wait, of %s%s%s; `cadf-take --windows all SITE FILE` takes them" % (name_shown(name), facts, " and ".join(why), WHAT_NEXT, what))
+            what = "times" if any(counts[:4]) else "keys"
+            say("%s: %d facts wait, of %s%s%s; `cadf-take --windows all SITE FILE` takes them%s" % (
+                name_shown(name), facts, " and ".join(why), WHAT_NEXT, what, BUT_FORGOTTEN % self.kept.floor if counts[3] else ""))
         return bool(self.left)
 
 

@@ -3,6 +3,7 @@
 A record is made of these texts and its ruling alone, and its identifier has their digest, so nobody else's event passes for one.
 A signature of the same texts is an attachment of it. docs/FORMATS.md has the form, docs/SECURITY.md what it shows.
 """
+import argparse
 import base64
 import contextlib
 import getpass
@@ -15,7 +16,8 @@ import tempfile
 from typing import NamedTuple
 
 from cadf_budget import BYTES, SECONDS, confine
-from cadf_toolkit import Fault, name_shown, opened, printable, started, with_digest
+from cadf_question import text_typed
+from cadf_toolkit import Fault, is_log_name, name_shown, opened, printable, started, with_digest
 
 EVENT, RULING = "E", "U"
 KINDS = {"E": "data/event", "G": "data/geolocation", "M": "data/metric", "P": "data/property", "R": "data/resource"}
@@ -92,6 +94,11 @@ def is_of_record(atom):
     return atom[0] == EVENT and atom[1].startswith(PREFIX) and (len(atom) == 3 or len(atom) == 5 and atom[3] == "A")
 
 
+def has_more(letter, name):
+    """Whether more than the values of a key says who ruled, or on what."""
+    return letter != EVENT or name.startswith(PREFIX)
+
+
 class Records:
     """The records in a log of that name, by ruling, each with its signatures."""
 
@@ -115,18 +122,32 @@ class Records:
 # ---- Signatures
 
 def default_name():
-    """Who rules, if nobody is named: the user and the machine."""
+    """Who rules, or forgets, if nobody is named: the user and the machine."""
     try:
         return "%s@%s" % (getpass.getuser(), socket.gethostname())
     except (OSError, KeyError):
         return "?@" + socket.gethostname()
 
 
-def run_keygen(words, text, **options):
-    """Has ssh-keygen work on a text. Returns its status, what it writes, and what it says."""
+def name_typed(text):
+    """Reads the name of who rules, or forgets."""
+    if not is_log_name(text_typed(text)):
+        raise argparse.ArgumentTypeError("not a name of 1 to 1,024 bytes without control characters")
+    return text
+
+
+def reason_typed(text):
+    """Reads why somebody does so."""
+    if len(text_typed(text)) > LONGEST_WHY:
+        raise argparse.ArgumentTypeError("longer than %d characters" % LONGEST_WHY)
+    return text
+
+
+def run_keygen(words, text, namespace=NAMESPACE, **options):
+    """Has ssh-keygen work on a text, or on bytes. Returns its status, what it writes, and what it says."""
     try:
-        with started(["ssh-keygen", "-Y", *words, "-n", NAMESPACE], stdin=subprocess.PIPE, stdout=subprocess.PIPE, stderr=subprocess.PIPE, **options) as child:
-            output, said = child.communicate(text.encode())
+        with started(["ssh-keygen", "-Y", *words, "-n", namespace], stdin=subprocess.PIPE, stdout=subprocess.PIPE, stderr=subprocess.PIPE, **options) as child:
+            output, said = child.communicate(text if isinstance(text, bytes) else text.encode())
             return child.returncode, output, said
     except FileNotFoundError:
         raise Fault("ssh-keygen: no such program: " + NO_SIGNER) from None

@@ -16,23 +16,27 @@ import subprocess
 from typing import NamedTuple
 
 import cadf_state
+import cadf_toolkit
 from cadf_index import are_as_read, files_of, size_of
 from cadf_index_file import keep, kept
 from cadf_link import Store
-from cadf_site import LARGEST, PART, UNITS, Folder, check_part, made_of_parts, order, other_unit, split, without_facts
-from cadf_times import SECOND, now
+from cadf_gone import is_window
+from cadf_site import CHANGED, LARGEST, PART, TRIES, Folder, check_part, made_of_parts, order, other_unit, split, without_facts
+from cadf_times import SECOND, SHARED, UNITS, WINDOW, now
 from cadf_toolkit import REFUSED, Fault, Refusal, another_program, as_input, cadf, log_name, log_of, other_log, with_advice, with_digest
 from cadf_windows import UNIONS, is_part
 
 UNIT = re.compile(("B (%s)" % "|".join(UNITS)).encode())
-NAME_LINE = re.compile(("W (%s)" % PART).encode())
-ENTRY = re.compile((r"W (%s)" % PART + 2 * r" ([1-9][0-9]{0,19}) ([0-9a-f]{64})").encode())
+NAME_LINE = re.compile(("(W) (%s)" % PART).encode())
+ENTRY = re.compile((r"([WG]) (%s)" % PART + 2 * r" ([1-9][0-9]{0,19}) ([0-9a-f]{64})").encode())
+FLOOR_LINE = re.compile(("T (%s)" % WINDOW).encode())
 SEAL = re.compile(rb"CADF-SEAL 1\nL [^\n]*\nN ([0-9]{1,20})\nR ([0-9a-f]{64})\nM ([0-9]{1,20})\nS ([0-9a-f]{64})\nZ [0-9a-f]{64}\n")
 ROOTS = "roots 1"  # the kind under which the index keeps them; another tree has another one
 NO_ROOT = hashlib.sha256(b"\2" + bytes(8) + hashlib.sha256().digest()).hexdigest()  # of no digests
 MOST = 2 ** 64  # above all counts
 LONGEST_LINE = 2 ** 14  # bytes: no right line has so many
 DAMAGED = "it is damaged: have it sent again"
+WENT = "%s: %s: it keeps from %s on: an archive of what went proves it, under the site's later seals too"
 OTHER = {1: "no seal, as `cadf seal` writes it", 3: "no proof, as `cadf prove` writes it"}  # by the places of what `cadf verify` reads
 
 
@@ -74,13 +78,25 @@ class OfParts:
     def bytes(self):
         """The file."""
         head = b"%s\nL %s\nB %s\n" % (self.FIRST, self.log.encode(), self.unit.encode())
-        return with_digest(head + b"".join(itertools.starmap(self.lines, self.parts.items())))
+        return with_digest(head + self.went() + b"".join(itertools.starmap(self.lines, self.parts.items())))
+
+    def went(self):
+        """The lines of what is kept no more."""
+        return b""
 
 
 class SiteSeal(OfParts):
-    """The seal of a folder: the roots of each part."""
+    """The seal of a folder: the roots of each part; if it forgot something its floor, and the roots of each window that went."""
     FIRST = b"CADF-SITE-SEAL 1"
     OTHER = "no seal of a folder, as `cadf-seal SITE/` writes it"
+
+    def __init__(self, log, unit, gone=None):
+        super().__init__(log, unit)
+        self.floor = gone.kept.floor if gone else None
+        self.gone = {part: roots_in(gone.windows[part].split(" ")) for part in sorted(gone.windows)} if gone else {}
+
+    def went(self):
+        return ("" if self.floor is None else "T %s\n%s" % (self.floor, "".join("G %s %s\n" % item for item in self.gone.items()))).encode()
 
     def lines(self, part, found):
         return ("W %s %s\n" % (part, found)).encode()
@@ -91,12 +107,24 @@ class SiteSeal(OfParts):
 
     def take(self, line, number):
         """Takes the line of that number."""
-        part, found = part_in(line, ENTRY, number, self)
-        self.parts[part] = roots_in(word.decode() for word in found.groups()[1:])
+        floor = FLOOR_LINE.fullmatch(line)
+        if floor and is_window(floor[1].decode(), self.unit):
+            if self.floor or self.parts:
+                raise Refused("line %d: order" % number)
+            self.floor = floor[1].decode()
+            return
+        is_gone, named = line.startswith(b"G"), ENTRY.fullmatch(line)
+        if is_gone and named and (self.floor is None or named[2] == SHARED.encode() or named[2].decode() >= self.floor):
+            raise Refused("line %d: shape" % number)
+        part, found = part_in(line, ENTRY, number, self.unit, self.gone if is_gone else self.parts)
+        if is_gone and self.parts:
+            raise Refused("line %d: order" % number)
+        (self.gone if is_gone else self.parts)[part] = roots_in(word.decode() for word in found.groups()[2:])
 
     def seal(self, part):
-        """What `cadf seal` writes of the part's files. Of a part that isn't listed there is no fact."""
-        return with_digest(("CADF-SEAL 1\nL %s\nN %d\nR %s\nM %d\nS %s\n" % (self.log, *self.parts.get(part, NOTHING))).encode())
+        """What `cadf seal` writes of the part's files, or wrote when it went. Of a part that isn't listed there is no fact."""
+        roots = self.parts.get(part) or self.gone.get(part, NOTHING)
+        return with_digest(("CADF-SEAL 1\nL %s\nN %d\nR %s\nM %d\nS %s\n" % (self.log, *roots)).encode())
 
 
 class SiteProof(OfParts):
@@ -118,7 +146,7 @@ class SiteProof(OfParts):
     def take(self, line, number):
         """Takes the line of that number."""
         if self.own is None:
-            part, _ = part_in(line, NAME_LINE, number, self)
+            part, _ = part_in(line, NAME_LINE, number, self.unit, self.parts)
             self.own = self.parts[part] = bytearray()
         else:
             self.own += line + b"\n"
@@ -147,30 +175,73 @@ class Kept(NamedTuple):
     union: str = ""
 
 
-def sealed_folder(name, damaged, jobs=1, is_full=False):
+def sealed_folder(name, damaged, jobs=1, is_full=False, keep_list=None):
     """The seal of a folder, as it stood at one moment, without the parts of which a file is damaged, which are noted with why.
 
-    Roots that are kept serve if the files are there as they were, by their sizes and last lines, and none is known to be damaged, unless all is to be read.
-    `read` is when the oldest was read whole.
+    `read` is when the oldest was read whole. `keep_list` is given the folder, the files of each part and the root of their facts.
     """
     with Folder(name, damaged) as folder:
-        index, known = folder.site(), {} if is_full else kept(folder, ROOTS)
-        bad = cadf_state.times(cadf_state.lines_of(folder), cadf_state.DAMAGED).keys()
-        seal = SiteSeal(index.log, index.unit)
-
-        def root_of(part, files):
-            key, at = files_of(files), now() // SECOND
-            if key in known and are_as_read(files, known[key][1]) and bad.isdisjoint((part, digest) for digest in files):
-                return Kept(key, *known[key])
-            union = check_part(index, part, files) if files else ""
-            return Kept(key, str(sealed(list(files.values())) if files else NOTHING), size_of(files), at, union if len(files) > 1 else "")
-
-        roots = made_of_parts([folder], None, root_of, jobs)
-        keep(folder, ROOTS, {each.files: each[1:4] for each in roots.values() if each.files not in known or known[each.files] != list(each[1:4])})
-        keep(folder, UNIONS, {each.files: (each.union, each.size, each.read) for each in roots.values() if each.union})
-        seal.parts = {part: roots_in(each.roots.split(" ")) for part, each in roots.items()}
-        seal.read = min((each.read * SECOND for each in roots.values()), default=None)
+        for _ in range(TRIES):
+            gone, index = folder.gone(), folder.site()
+            seal, found = SiteSeal(index.log, index.unit, gone), kept_roots(folder, None, jobs, is_full, keep_list)
+            if folder.site().gone == index.gone:
+                break
+        else:
+            raise Fault(CHANGED % folder.shown())
+        seal.parts = {part: roots_in(each.roots.split(" ")) for part, each in found.items()}
+        seal.read = min((each.read * SECOND for each in found.values()), default=None)
     return seal
+
+
+def kept_roots(folder, parts, jobs=1, is_full=False, keep_list=None):
+    """What is kept of the roots of an open folder's parts, or of some, as they stood at one moment; it is made where it lacks.
+
+    Roots that are kept serve if the files are there as they were, by their sizes and last lines, and none is known to be damaged, unless all is to be read.
+    """
+    index, known = folder.site(), {} if is_full else kept(folder, ROOTS)
+    bad = cadf_state.times(cadf_state.lines_of(folder), cadf_state.DAMAGED).keys()
+
+    def root_of(part, files):
+        key, at, own = files_of(files), now() // SECOND, list(files.values())
+        if key in known and are_as_read(files, known[key][1]) and bad.isdisjoint((part, digest) for digest in files):
+            roots = Kept(key, *known[key])
+        else:
+            union = check_part(index, part, files) if files else ""
+            roots = Kept(key, str(sealed(own) if own else NOTHING), size_of(files), at, union if len(files) > 1 else "")
+        if keep_list and own:
+            keep_list(folder, own, roots_in(roots.roots.split(" ")).root)
+        return roots
+
+    found = made_of_parts([folder], parts, root_of, jobs)
+    keep(folder, ROOTS, {each.files: each[1:4] for each in found.values() if each.files not in known or known[each.files] != list(each[1:4])})
+    keep(folder, UNIONS, {each.files: (each.union, each.size, each.read) for each in found.values() if each.union})
+    return found
+
+
+# ---- Compared
+
+class Difference(NamedTuple):
+    """What differs in a part between an earlier seal and a later one, in words, and whether facts that were sealed are no more there."""
+    part: str
+    words: str
+    is_loss: bool
+    is_as_sealed: bool = False  # a window that went with what it had by the earlier seal
+
+
+def differences(then, now, but):
+    """Yields what differs between two seals of a folder, in order of parts, but of some."""
+    for part in sorted({*then.parts, *then.gone, *now.parts} - but, key=order):
+        old, new, went = then.parts.get(part), now.parts.get(part), now.gone.get(part)
+        if old is None and part in then.gone:
+            if new is not None or went != then.gone[part]:
+                yield Difference(part, "gone then, now %s" % ("%d facts" % new.facts if new else "not told, or otherwise"), True)
+        elif old is None:
+            yield Difference(part, "new, facts now %d" % new.facts, False)
+        elif new is None:
+            why = "" if went is None else ": %d when it went" % went.facts
+            yield Difference(part, "gone %s, facts then %d%s" % ("as it was sealed" if went == old else "otherwise", old.facts, "" if went == old else why), True, went == old)
+        elif new != old:
+            yield Difference(part, "facts then %d, now %d" % (old.facts, new.facts), False)
 
 
 # ---- Read
@@ -219,13 +290,13 @@ def check_last(line, digest, file):
         raise Refused("too large" if size > LARGEST else "trailing bytes")
 
 
-def part_in(line, pattern, number, kept):
-    """What the line of that number has of a part, which comes after those that are kept."""
+def part_in(line, pattern, number, unit, before):
+    """What the line of that number has of a part, which comes after those before."""
     found = pattern.fullmatch(line)
-    part = found[1].decode() if found else ""
-    if not is_part(part, kept.unit) or any(int(count) >= MOST for count in found.groups()[1::2]):
+    part = found[2].decode() if found else ""
+    if not is_part(part, unit) or any(int(count) >= MOST for count in found.groups()[2::2]):
         raise Refused("line %d: shape" % number)
-    if kept.parts and order(part) <= order(next(reversed(kept.parts))):
+    if before and order(part) <= order(next(reversed(before))):
         raise Refused("line %d: order" % number)
     return part, found
 
@@ -275,8 +346,11 @@ def by_part(facts, log, unit):
 def proved(facts, name):
     """The proof which facts of a file a folder has, and which it hasn't: each is looked for in the window of its instant."""
     with Folder(name) as folder:
-        index = folder.site()
+        index, gone = folder.site(), folder.gone()
         proof, asked = SiteProof(index.log, index.unit), by_part(facts, index.name(), index.unit)
+        for part in asked:
+            if not gone.kept.has(part):
+                raise Fault(WENT % (folder.shown(), part, gone.kept.floor), REFUSED)
         with without_facts(proof.log, name) as empty:
             def proof_of_part(part, files):
                 with asked[part].opened("%s of %s" % (part, facts.name)) as own:
@@ -298,9 +372,9 @@ def check_parts(asked, proof, name):
     """Refuses a proof of that name that has not just the parts that the facts are in."""
     for part in sorted({*asked, *proof.parts}, key=order):
         if part not in proof.parts:
-            raise Fault("%s: %s: not shown" % (name, part), REFUSED)
+            raise Fault("%s: %s: %s" % (name, part, with_advice("not shown")), REFUSED)
         if part not in asked:
-            raise Fault("%s: %s: not needed" % (name, part), REFUSED)
+            raise Fault("%s: %s: %s" % (name, part, with_advice("not needed")), REFUSED)
 
 
 def verify(words, inputs):
@@ -314,7 +388,7 @@ def verify(words, inputs):
         place = 2 if fault.said.startswith("fact ") else fault.place
         if place is None or fault.place == 2:
             raise
-        said = "version: " + OTHER[place] if fault.said == "version" else with_advice(fault.said)
+        said = "version: " + OTHER[place] if fault.said == "version" else with_advice(fault.said).replace(cadf_toolkit.DAMAGED, DAMAGED)
         raise Fault("%s: %s" % (inputs[place - 1].name, said), fault.status) from None
 
 

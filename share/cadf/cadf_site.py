@@ -23,17 +23,17 @@ import subprocess
 import tempfile
 
 from cadf_children import made_by_children
-from cadf_times import Bounds
+import cadf_gone
+from cadf_times import SHARED, UNITS, WINDOW, Bounds, window_of
 from cadf_toolkit import (CADF, DIFFERS, DONE, FAILED, IN_THE_WAY, LARGEST, LAST, MEMORY, NOT_ITS_FAULT, REFUSED, Fault, Input, Refusal, allow_inputs,
                           another_program, as_input, cadf, check_end, check_lock, grouped, last_digest, log_name, name_shown, new_lock, open_descriptor, opened_file,
                           other_log, say, started_cadf, sync, wait_for_lock, whole_number, with_digest)
 
 ALL = 10 ** 9 - 1  # windows that a take may begin if a person allows all
-UNITS = {"month": len("2024-03"), "day": len("2024-03-01"), "hour": len("2024-03-01T12")}  # with the length of a window's name
-INDEX, LOCK, WORKING = "site", ".lock", ".new"
-HEAD = re.compile(rb"CADF-SITE 1\nL (.*)\nB (month|day|hour)\n")
-SHARED = "shared"
-WINDOW = r"[0-9]{4}-[0-9]{2}(?:-[0-9]{2}(?:T[0-9]{2})?)?"
+INDEX, LOCK, WORKING, ROOM = "site", ".lock", ".new", ".room"
+LEAST_ROOM = 2 ** 20  # bytes that are kept for a forgetting on a full disk
+HEAD = re.compile(rb"CADF-SITE [12]\nL (.*)\nB (month|day|hour)\n(?:G ([0-9a-f]{64})\n)?")
+OTHER_VERSION = re.compile(rb"CADF-SITE (?!1\n|2\n)[0-9]{1,6}\n")
 PART = r"(?:%s|%s)" % (SHARED, WINDOW)
 DIGITS = r"[0-9a-f]{64}"
 SECOND = b"CADF-REPLICA 2\n"  # as a file of a window begins: in this format facts have one file
@@ -48,6 +48,7 @@ CHANGED = "%%s: it changed at each of %d looks: try again" % TRIES
 MOST_NEW = 400  # windows that a take begins, unless more are allowed
 TOO_MANY_NEW = "the files make more than %d new windows: if that is meant, allow it by --windows N; --rest FILE has all else taken"
 OUTSIDE = "the files have events of the window %s, which --not-before or --not-after leaves out: --rest FILE has all else taken"
+FORGOTTEN = "the files have events of the window %s, and the site keeps from %s on: no take brings them: --rest FILE has all else taken"
 MOST_NAMED = 20  # strangers, or parts that are left out
 PIECE = 2 ** 16  # bytes of a line that are held at once
 MOST_AT_ONCE = 2 ** 28  # bytes of inputs that are split at once, if there are several, so that a part's file doesn't grow with their number
@@ -59,6 +60,8 @@ MOST_SETTLED = 2 ** 28  # bytes that are joined before `site` is replaced, so th
 NO_SITE = "no site in it: `cadf-take --by day SITE/ FILE..` makes one"
 DAMAGED = "the site is damaged: `cadf-sync --repair SITE/ HOST:SITE` mends it, or restore it as the guide says under `A damaged site`"
 LOST = "the site is damaged: restore it as the guide says under `A damaged site`"  # which names its windows no more
+LATER = "a later release wrote it: have that one, or a newer one, here"
+KEEPS = "%s keeps from %s on: what was older went"
 NO_FILE = "not a regular file: "
 OTHER_CONTENT = "it holds something else than its name says: " + DAMAGED
 
@@ -82,13 +85,13 @@ def other_unit(unit, wanted):
 
 
 class Index:
-    """What the file `site` says: a log, by the canonical text of its name, a unit, and files, by part and digest.
+    """What the file `site` says: a log, by the canonical text of its name, a unit, files, by part and digest, and the digits of the file of what went, or None.
 
     It is held by its lines, in the order of their bytes, in which `shared` is last. A take needs few of them.
     """
 
-    def __init__(self, log, unit, lines=()):
-        self.log, self.unit, self.lines = log, unit, sorted(lines)
+    def __init__(self, log, unit, lines=(), gone=None):
+        self.log, self.unit, self.lines, self.gone = log, unit, sorted(lines), gone
 
     @classmethod
     def read(cls, data):
@@ -100,7 +103,7 @@ class Index:
             log_name(head[1].decode())
         except ValueError:
             return None
-        index = cls(head[1].decode(), head[2].decode(), data[head.end():cut].splitlines(True))
+        index = cls(head[1].decode(), head[2].decode(), data[head.end():cut].splitlines(True), head[3] and head[3].decode())
         return index if index.is_well_formed() and b"".join(index.bytes()) == data else None
 
     def is_well_formed(self):
@@ -117,7 +120,7 @@ class Index:
         """Yields the lines of the file."""
         first = bisect.bisect_left(self.lines, b"F " + SHARED.encode())
         hash_all = hashlib.sha256()
-        head = [("CADF-SITE 1\nL %s\nB %s\n" % (self.log, self.unit)).encode()]
+        head = [("CADF-SITE %d\nL %s\nB %s\n%s" % (2 if self.gone else 1, self.log, self.unit, "G %s\n" % self.gone if self.gone else "")).encode()]
         for line in itertools.chain(head, itertools.islice(self.lines, first, None), itertools.islice(self.lines, first)):
             hash_all.update(line)
             yield line
@@ -143,6 +146,8 @@ class Index:
 
     def has(self, name):
         """Whether a file of that name is one of the site."""
+        if cadf_gone.FILE.fullmatch(name):
+            return self.gone is not None and name == cadf_gone.file_name(self.gone)
         line = entry_line(*name[:-len(".cadf")].split("."))
         place = bisect.bisect_left(self.lines, line)
         return self.lines[place:place + 1] == [line]
@@ -151,7 +156,7 @@ class Index:
         """The index that has these digests for these parts."""
         others = {part.encode() for part in parts}
         lines = [line for line in self.lines if line.split(b" ", 2)[1] not in others]
-        return Index(self.log, self.unit, lines + [entry_line(part, digest) for part, digests in parts.items() for digest in digests])
+        return Index(self.log, self.unit, lines + [entry_line(part, digest) for part, digests in parts.items() for digest in digests], self.gone)
 
 
 class Folder:
@@ -162,6 +167,7 @@ class Folder:
 
     def __init__(self, name, damaged=None):
         self.name, self.read, self.files = name.rstrip("/") or "/", (None, None), contextlib.ExitStack()
+        self.went = None, None  # the digits of the file of what went that was read last, and what it says
         self.damaged = damaged  # why parts are left out, by part; None if all of them are needed
         try:
             self.descriptor = os.open(name, os.O_RDONLY | os.O_DIRECTORY)
@@ -218,7 +224,8 @@ class Folder:
             if fault.errno in NOT_ITS_FAULT:
                 raise
             is_other = fault.errno in (errno.ELOOP, errno.EINVAL, errno.EISDIR)
-            said = NO_FILE + (LOST if name == INDEX else DAMAGED) if is_other else fault.strerror
+            advice = LOST if name == INDEX else cadf_gone.LOST if cadf_gone.FILE.fullmatch(name) else DAMAGED
+            said = NO_FILE + advice if is_other else fault.strerror
             raise Fault("%s: %s" % (self.shown(name), said)) from None
 
     def input(self, name):
@@ -237,7 +244,10 @@ class Folder:
             found = os.fstat(file.fileno())
             state = found.st_dev, found.st_ino, found.st_size, found.st_mtime_ns, found.st_ctime_ns
             if state != self.read[0]:
-                found = Index.read(file.read(LONGEST_INDEX))
+                data = file.read(LONGEST_INDEX)
+                if OTHER_VERSION.match(data):
+                    raise Fault("%s: %s" % (self.shown(INDEX), LATER), REFUSED)
+                found = Index.read(data)
                 self.read = state, found and found.with_parts(dict.fromkeys(self.damaged or (), ()))
                 self.files.close()  # the one read stays open, so that no other file gets its number
                 self.files = files.pop_all()
@@ -279,6 +289,27 @@ class Folder:
         if index is None:
             raise self.no_site()
         return index
+
+    def gone(self):
+        """What went of it, and what it keeps, by the file that `site` names. Raises that this can't be read: then nobody knows what is to be taken."""
+        for _ in range(TRIES):
+            index = self.site()
+            if index.gone is None:
+                return cadf_gone.Gone(index.log, index.unit)
+            if index.gone == self.went[0]:
+                return self.went[1]
+            name = cadf_gone.file_name(index.gone)
+            try:
+                with self.input(name).file as file:
+                    found = cadf_gone.Gone.read(file.read(LONGEST_INDEX), index.log, index.unit)
+            except FileNotFoundError:
+                if self.site().gone != index.gone:
+                    continue
+                raise Fault("%s: not there: %s" % (self.shown(name), cadf_gone.LOST), REFUSED) from None
+            if found is None or found.digits() != index.gone:
+                raise Fault("%s: damaged, or of a later release: %s" % (self.shown(name), cadf_gone.LOST), REFUSED)
+            self.went = index.gone, found
+        raise Fault(CHANGED % self.shown())
 
     def no_site(self):
         """The fault that `site` isn't there. It was lost if files of windows are: a first take, which may be at work, writes it before them."""
@@ -381,6 +412,25 @@ def tell_damaged(damaged, asked):
     if len(damaged) > MOST_NAMED:
         say("left out %s" % names_shown(damaged))
     return REFUSED if any(part in damaged for part in asked) else DIFFERS if damaged else DONE
+
+
+def floor_of(name, first=None):
+    """What is said of a folder that forgot some of what is asked for, from an instant on, or that this can't be read, and the status; no words if it forgot nothing."""
+    try:
+        with Folder(name) as folder:
+            unit, floor = folder.site().unit, folder.gone().kept.floor
+    except Fault as fault:
+        return str(fault), fault.status
+    is_asked = floor is not None and (first is None or window_of(first, unit) < floor)
+    return KEEPS % (name_shown(name), floor) if is_asked else "", DONE
+
+
+def tell_floor(*words):
+    """Says it. Returns the status."""
+    said, status = floor_of(*words)
+    if said:
+        say(said)
+    return status
 
 
 def files_of(part, indexes):
@@ -566,6 +616,7 @@ class Taking:
             wait_for_lock(self.lock, folder.path(LOCK), wait)
             self.check_lock()
             self.index = folder.index()
+            self.kept = folder.gone().kept if self.index else cadf_gone.ALL
         except BaseException:
             os.close(self.lock)
             raise
@@ -600,7 +651,7 @@ class Taking:
         left, strangers = [], []
         with os.scandir(self.folder.descriptor) as files:
             for file in files:
-                if WINDOW_FILE.fullmatch(file.name):
+                if WINDOW_FILE.fullmatch(file.name) or cadf_gone.FILE.fullmatch(file.name):
                     if self.index is None or not self.index.has(file.name):
                         left.append(file.name)
                 elif file.name == WORKING:
@@ -824,6 +875,27 @@ class Taking:
         else:
             os.fsync(self.folder.descriptor)  # a call that was killed may have put it there
 
+    def forget(self, gone):
+        """Replaces `site` by one that names this file of what went, and no windows but those that are kept; then their files go."""
+        self.is_removed(ROOM)  # which a full disk has for what is written here
+        with self.new_file() as output:
+            output.write(gone.bytes())
+        self.name(cadf_gone.file_name(gone.digits()))
+        before, self.kept = self.index, gone.kept
+        lines = [entry_line(*entry) for entry in before.entries() if gone.kept.has(entry[0])]
+        self.put(Index(before.log, before.unit, lines, gone.digits()))
+        for name in [*(file_name(*entry) for entry in before.entries()), *([cadf_gone.file_name(before.gone)] if before.gone else [])]:
+            if not self.index.has(name):
+                self.is_removed(name)
+        self.keep_room()
+
+    def keep_room(self):
+        """Has room on the disk for the next forgetting, if there is some now."""
+        size = max(LEAST_ROOM, 4 * os.stat(INDEX, dir_fd=self.folder.descriptor).st_size)
+        with contextlib.suppress(OSError), open_descriptor(self.folder.open(ROOM, os.O_WRONLY | os.O_CREAT)) as file:
+            self.folder.give(file, 0o600)
+            os.posix_fallocate(file, 0, size)
+
     def put(self, index):
         """Replaces `site`, all that it names being on the disk."""
         os.fsync(self.folder.descriptor)
@@ -875,6 +947,8 @@ def taking(name, unit, log, wait, damaged=None):
 class Limits:
     """The limits of a take that is of all or nothing: how many windows it may begin, of which times they are, and which rulings are welcome, if not all."""
 
+    kept = cadf_gone.ALL  # by the site
+
     def __init__(self, most=MOST_NEW, bounds=Bounds(), welcome=None):
         self.most, self.bounds, self.welcome, self.begun = most, bounds, welcome, set()
 
@@ -886,6 +960,8 @@ class Limits:
 
     def keeps(self, part, _, is_there):
         """Raises why nothing is taken, as the next part shows. Keeps none apart."""
+        if not self.kept.has(part):
+            raise Fault(FORGOTTEN % (part, self.kept.floor), REFUSED)
         if not self.bounds.has(part):
             raise Fault(OUTSIDE % part, REFUSED)
         if not is_there:
@@ -910,6 +986,7 @@ def take(name, inputs, unit=None, log=None, wait=None, limits=None):
         if found.index is None:
             with contextlib.suppress(PermissionError):  # who may go through a folder may not read it
                 sync(os.path.dirname(os.path.abspath(name)))
+        limits.kept = found.kept
         for group in grouped(inputs, lambda each: os.fstat(each.file.fileno()).st_size, MOST_AT_ONCE):
             found.add(found.words(unit, log), group, limits)
         with limits.finished(found, inputs):
@@ -926,6 +1003,7 @@ def settle(name, wait=None, told=None):
     with taking(name, None, None, wait, damaged) as found:
         before = found.index.parts()
         large = found.settle()
+        found.keep_room()
         if told is not None:
             told(found.folder, before, found.index.parts())
     for part, count in large.items():

@@ -10,8 +10,10 @@ import re
 import time
 from typing import NamedTuple, Optional
 
-from cadf_logs import instant
+from cadf_logs import instant, utc
 
+UNITS = {"month": len("2024-03"), "day": len("2024-03-01"), "hour": len("2024-03-01T12")}  # with the length of a window's name
+WINDOW, SHARED = r"[0-9]{4}-[0-9]{2}(?:-[0-9]{2}(?:T[0-9]{2})?)?", "shared"  # the names of windows; of the part of what has no time
 SECOND = 10 ** 9
 STEPS = {"s": SECOND, "min": 60 * SECOND, "h": 3600 * SECOND, "d": 86400 * SECOND, "w": 7 * 86400 * SECOND}
 DAYS = {"now": None, "today": 0, "yesterday": -1, "tomorrow": 1}
@@ -40,6 +42,11 @@ def end(window):
         after = begin("%04d-%02d" % (year + month // 12, month % 12 + 1))
         return NEVER if after is None else after  # after the year 9999
     return begin(window) + (STEPS["d"] if len(window) == len("2024-03-01") else STEPS["h"])
+
+
+def window_of(at, unit):
+    """The window of that unit in which an instant is."""
+    return utc(at)[:UNITS[unit]]
 
 
 def distance(window, at):
@@ -85,6 +92,11 @@ def nearest(windows, at):
     return sorted(windows, key=lambda window: (distance(window, at), window))
 
 
+def most_near(unit):
+    """How many windows of a unit may be near now; of none, a day's."""
+    return 2 * NEAR // STEPS["h" if unit == "hour" else "d"] + 2 if unit != "month" else 2
+
+
 def is_far(window):
     """Whether a window is so far from now that others than who sends old events bring it nothing any more."""
     return distance(window, now()) > NEAR
@@ -104,9 +116,9 @@ def first_within(windows, sizes, most):
 def chosen(wanted, most, each):
     """Which windows are begun, of the lists of what each sender's events are of: the nearest to now first, and the senders in turn.
 
-    At most so many, and of each sender at most so many.
+    At most so many, and of each sender at most so many that are far from now: of others there are few, which somebody begins in any case.
     """
     at = now()
-    turns = itertools.zip_longest(*(nearest(windows, at)[:own] for windows, own in zip(wanted, each)))
+    turns = itertools.zip_longest(*(nearest(windows, at)[:own + len(windows) - sum(map(is_far, windows))] for windows, own in zip(wanted, each)))
     found = dict.fromkeys(window for turn in turns for window in turn if window is not None)
     return set(itertools.islice(found, most))

@@ -50,6 +50,9 @@ OUT_OF_TIME = "it took more processor time than it may: give more by --time"
 OTHER_KINDS = {
     b"CADF-INVENTORY ": "an inventory, which holds no facts: `cadf missing-by SITE INVENTORY` answers it",
     b"CADF-SKETCH ": "a sketch, which holds no facts: `cadf missing-by-sketch SITE SKETCH` answers it",
+    b"CADF-SEALED ": "a list of what was sealed, which holds no facts: `cadf growth LIST FILE` makes a proof by it",
+    b"CADF-ERASED ": "a list of what was erased, which holds no facts: `cadf omit LIST FILE` leaves that out",
+    b"CADF-SITE-GROWTH ": "a proof of growth, which holds no facts: `cadf-seal --grew OLD NEW PROOF` reads it",
     b"CADF-SITE-PROOF ": "a proof, which holds no facts: `cadf-seal --verify SEAL FACTS PROOF` reads it",
     b"CADF-PROOF ": "a proof, which holds no facts: `cadf verify SEAL FACTS PROOF` reads it",
     b"CADF-SITE-SEAL ": "the seal of a folder, which holds no facts: `cadf-seal --compare SEAL SITE/` reads it",
@@ -71,6 +74,8 @@ WRITTEN = {
     "sketch": ("sketch", b"CADF-SKETCH "),
     "seal": ("seal", b"CADF-SEAL "),
     "prove": ("proof", b"CADF-PROOF "),
+    "sealed": ("list of what is sealed", b"CADF-SEALED "),
+    "growth": ("proof of growth", b"CADF-PROOF "),
 }
 LONGEST_BEGIN = max(len(begin) for _, begin in WRITTEN.values())
 LAST, LAST_LINE = re.compile(rb"Z ([0-9a-f]{64})\n"), 67  # of each of them that is a file, and its bytes
@@ -82,6 +87,10 @@ LONGEST_NAME = 1024  # bytes of a log's identifier
 OF_NO_KIND = re.compile("version|not JSON|event 0: ")  # what cadf says of them
 DAMAGED = "the file is damaged: fetch it again, or restore it as the guide says under `A damaged site`"
 OTHER_TIME = "seal and proof are of other facts: have both made of the site as it was at one time"
+NO_SET = "no site has such a proof, so it was changed: have it made again"
+FOR_OTHERS = "it was made for other facts: have a proof made of just these"
+OTHER_GROWTH = "the two seals and the proof don't belong together: have the proof made again, from this earlier seal to this later one"
+GONE = "it was sealed, and isn't there any more: ask the site's people why; --erased LIST allows what they had erased"
 # What to do about a refusal, by how its text begins.
 ADVICE = {
     "too large": "no file above 2^30 bytes is read; give smaller ones to a site's folder: cadf-take --by day SITE/ FILE..",
@@ -90,6 +99,13 @@ ADVICE = {
     "other log": "one site has one log; `cadf check FILE` says which log a file is of",
     "other count": OTHER_TIME,
     "other root": OTHER_TIME,
+    "no tree": NO_SET,
+    "order": NO_SET,
+    "neighbour hidden": NO_SET,
+    "not needed": FOR_OTHERS,
+    "not shown": FOR_OTHERS,
+    **{"%s: %s" % (tree, cause): advice for tree in ("facts", "keys")
+       for cause, advice in (("other count", OTHER_GROWTH), ("other root", OTHER_GROWTH), ("gone", GONE))},
     "digest": DAMAGED,
     "truncated": DAMAGED,
     "trailing bytes": DAMAGED,
@@ -551,8 +567,9 @@ def other_log(log):
 
 
 def with_advice(text):
-    """The text, with what to do next."""
-    return next(("%s: %s" % (text, advice) for begin, advice in ADVICE.items() if text.startswith(begin)), text)
+    """The text, with what to do next: by how it begins, behind the number of a fact."""
+    cause = re.sub(r"^fact \d+: ", "", text)
+    return next(("%s: %s" % (text, advice) for begin, advice in ADVICE.items() if cause.startswith(begin)), text)
 
 
 def explained(said, which):

@@ -14,6 +14,7 @@ import secrets
 import subprocess
 import tempfile
 
+import cadf_gone
 import cadf_site
 from cadf_index import files_of, size_of
 from cadf_index_file import beside, keep, kept
@@ -84,7 +85,15 @@ def made(words, inputs, name):
 
 # ---- Sites
 
-class NoSite:
+class AllKept:
+    """A site that forgot nothing."""
+
+    def kept(self):
+        """What it keeps."""
+        return cadf_gone.ALL
+
+
+class NoSite(AllKept):
     """A site that is not there yet."""
     log = unit = None
 
@@ -95,7 +104,7 @@ class NoSite:
         return contextlib.nullcontext([])
 
 
-class FileSite:
+class FileSite(AllKept):
     """A site that is a file, as it is when it is opened. Its windows by a unit are those of `cadf split`."""
     unit = None
 
@@ -105,13 +114,13 @@ class FileSite:
             self.input = made(["join"], [input], input.name)
         self.log = self.input.log()
 
-    def digests(self, unit, since):
-        """The digest of each part by that unit, from a window on."""
+    def digests(self, unit, is_wanted):
+        """The digest of each part by that unit that is wanted."""
         if unit is None:
             return {ALL: last_digest(self.input.file)}
         if not self.parts:
             self.split(unit)
-        return {part: last for part, (_, last) in self.parts.items() if is_wanted(part, since)}
+        return {part: last for part, (_, last) in self.parts.items() if is_wanted(part)}
 
     def split(self, unit):
         store = Store()
@@ -147,12 +156,16 @@ class FolderSite:
         index = folder.site()
         self.folder, self.log, self.unit = folder, index.name(), index.unit
 
-    def digests(self, _, since):
-        """The digest of each part, from a window on."""
+    def kept(self):
+        """What it keeps now."""
+        return self.folder.gone().kept
+
+    def digests(self, _, is_wanted):
+        """The digest of each part that is wanted."""
         parts, new, found = self.folder.site().parts(), {}, {}
         known = kept(self.folder, UNIONS, [beside]) if any(len(files) > 1 for files in parts.values()) else {}
         for part, files in parts.items():
-            if not is_wanted(part, since):
+            if not is_wanted(part):
                 continue
             key = files_of(files)
             if len(files) > 1 and key not in known:

@@ -1,6 +1,7 @@
 /* Conflicts and rulings: what differs, side by side, and which values a person chooses. */
 
 const KINDS = {E: "event", R: "resource", G: "geolocation", M: "metric", P: "property", C: "chain", T: "tag", A: "attachment", U: "ruling"};
+const kindsOf = kind => KINDS[kind].replace(/y$/, "ie") + "s";
 const BESIDE = new Set(["id", "typeURI", "reporterchain", "reporterchains", "tags", "attachments"]);
 const kindOf = at => plain(member(conflicts[at], "kind")), keyOf = at => plain(member(conflicts[at], "key"));
 const ruledKeys = new Map();   // the digests that are ruled, by kind and key
@@ -356,7 +357,7 @@ function patternList(groups, everything, pick) {
     list.append(make("li", {}, made));
   };
   add(`all ${counted(conflicts.length)}`, everything);
-  for (const {kind, differing, members} of groups.slice(0, PATTERNS)) add(`${counted(members.length)} ${KINDS[kind]}${members.length > 1 ? "s differ" : " differs"} in `, members, differing);
+  for (const {kind, differing, members} of groups.slice(0, PATTERNS)) add(`${counted(members.length)} ${members.length > 1 ? kindsOf(kind) + " differ" : KINDS[kind] + " differs"} in `, members, differing);
   if (groups.length > PATTERNS) list.append(make("li", {class: "minor"}, `and ${counted(groups.length - PATTERNS)} more groups`));
   return list;
 }
@@ -376,8 +377,9 @@ function rulingTable() {
     return make("tr", {}, make("td", {}, KINDS[kind]), put(make("td", {class: "party"}), key), make("td", {}, make("code", {}, digest)), make("td", {}, STATES[state]));
   });
   const heads = heading(["Kind", "Key", "SHA-256 of the value", "What it does"]);
+  const table = make("table", {class: "pairs"}, make("caption", {class: "unseen"}, "Rulings"), heads, body);
   list(rulings.map((ruling, at) => [ruling, data.states[at]]));
-  return titled(`Rulings: ${counted(rulings.length)}`, ...(rulings.length > 50 ? [top] : []), make("div", {class: "scroll"}, make("table", {class: "pairs"}, make("caption", {class: "unseen"}, "Rulings"), heads, body)));
+  return titled(`Rulings: ${counted(rulings.length)}`, ...(rulings.length > 50 ? [top] : []), make("div", {class: "scroll"}, table));
 }
 
 let pickConflicts = null;   // shows these conflicts alone, once their view was filled

@@ -18,6 +18,12 @@ function pager(count, size, page, turn, without = count) {
 let printing = false;
 const lists = [];   // the lists that are printed whole, each with its element and what shows it again
 
+/** Names the cells of a table by their columns, for a window that is too narrow for those. */
+function nameCells(body) {
+  const table = body.closest("table.pairs"), heads = table ? [...table.tHead.rows[0].cells] : [];
+  for (const row of heads.length ? body.rows : []) heads.forEach((head, at) => { row.cells[at].dataset.label = head.textContent; });
+}
+
 /** Ties a list to its pages: returns a function that shows the first page of what it is given. */
 function paged(size, top, body, row, without = () => undefined) {
   let items = [], page = 0;
@@ -27,6 +33,7 @@ function paged(size, top, body, row, without = () => undefined) {
     top.replaceChildren(pager(items.length, room, printing ? 0 : page, turn, without()));
     for (const item of printing ? items : items.slice(page * size, (page + 1) * size)) rows.append(row(item));
     body.replaceChildren(rows);
+    nameCells(body);
   };
   lists.push({body, show});
   return found => { items = found; page = 0; show(); };
@@ -176,7 +183,7 @@ function partyCell(event, role) {
 
 /** Makes the cell of an action; the body of a contradicted event says there that it is one. */
 function actionCell(event) {
-  const action = columns.action.of(event), made = make("td", {title: cut(named(action), 400)});
+  const action = columns.action.of(event), made = make("td", {"data-label": "action", title: cut(named(action), 400)});
   if (isOpen(event)) made.append(make("span", {class: "badge open"}, `contradicted, 1 of ${data.digests[conflictOf[event]].length}`), " ");
   return put(made, cut(action, 200));
 }
@@ -196,20 +203,20 @@ function row(event) {
   };
   const outcomeCell = put(make("td", {class: "outcome"}, chip(outcome), " "), columns.outcome.of(event));
   made.append(make("td", {class: "time"}, opener), outcomeCell, actionCell(event), ...PARTIES.map(role => partyCell(event, role)),
-    make("td", {class: "late"}, lagText(lag(events[event]))), put(make("td", {class: "printed"}), plain(member(events[event], "id"))));
+    make("td", {class: "late", "data-label": "reported after"}, lagText(lag(events[event]))), put(make("td", {class: "printed"}), plain(member(events[event], "id"))));
   made.addEventListener("click", click => { if (!opener.contains(click.target) && !String(getSelection())) open(); });
   rows.append(made);
   if (opened.has(event)) open();
   return rows;
 }
 
-/** Makes a head that sorts. */
+/** Makes a head that sorts; on paper it is a text, since a browser prints a button on the first page alone. */
 function head([name, label]) {
   const sorter = button(label, () => {
     Object.assign(chosen, {falling: chosen.sort === name && !chosen.falling, sort: name});
     update({filters: false});
   });
-  return make("th", {scope: "col", "data-sort": name, class: name}, sorter);
+  return make("th", {scope: "col", "data-sort": name, class: name}, sorter, make("span", {class: "printed", "aria-hidden": "true"}, label));
 }
 
 /** Makes the filter of a column: a choice for actions, else a text with suggestions. */
@@ -222,7 +229,7 @@ function filterOf([name, label]) {
   for (const number of often) list.append(make("option", {value: "=" + (column.names[number] || column.texts[number])}, named(column.names[number] && column.texts[number]) + " (" + counted(counts[number]) + ")"));
   const input = make("input", {"data-filter": name, list: list.id, placeholder: "contains, or =exactly", "aria-label": "Filter by " + label, spellcheck: "false", autocomplete: "off"});
   input.addEventListener("input", calmed(() => { chosen[name] = input.value; update(); }));
-  return make("td", {}, input, list);
+  return make("td", {"data-label": label}, input, list);
 }
 
 /** Says why no event is listed. */

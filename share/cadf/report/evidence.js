@@ -64,6 +64,8 @@ function questionRows() {
     ["filters", asked().map(([name, value]) => `${name}: ${value}`).join("; ") || "none"], ["rows", rows],
     [`SHA-256 of the log text${of}`, id("log-digest").textContent], [`SHA-256 of the conflict list${of}`, id("conflict-digest").textContent]];
   if (!id("seal").hidden) found.push([id("seal").querySelector("dt").textContent, id("seal").querySelector("code").textContent]);
+  if (data.union) found.push(["compared with", data.union.names[1]]);
+  if (!id("other").hidden) found.push([id("other").querySelector("dt").textContent, id("other").querySelector("code").textContent]);
   found.push(["made by", `cadf-report with ${id("version").textContent}`]);
   return found;
 }

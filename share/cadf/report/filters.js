@@ -148,23 +148,30 @@ let listed = [];    // those within the range, sorted
 let hidden = [];    // bodies of contradicted events that pass, while they are switched off
 const watchers = [];
 
+const LONGEST_PATTERN = 64;   // characters of a text that a search begins with
+const inPattern = unit => "\\u" + unit.charCodeAt(0).toString(16).padStart(4, "0");
+
 /** A search for a text in all texts and member names, in either case; what is shared is looked at once. */
 class Search {
   constructor(wanted) {
     this.wanted = folded(wanted);
+    this.seen = new RegExp(this.wanted.slice(0, LONGEST_PATTERN).replace(/\W/g, inPattern) + "|[^\\0-\\x7f]", "i");   // a text in which it finds nothing hasn't the wanted one
     this.known = new Uint8Array(data.table.length);
     this.shapes = data.shapes.map(names => names.some(name => folded(name).includes(this.wanted)));
   }
   /** Tells whether a value has the text somewhere. */
   finds(cell) {
-    if (typeof cell === "string") return folded(cell).includes(this.wanted);
+    if (typeof cell === "string") return this.seen.test(cell) && folded(cell).includes(this.wanted);
     if (typeof cell === "number") {
       if (!this.known[cell]) this.known[cell] = this.finds(data.table[cell]) ? 2 : 1;
       return this.known[cell] === 2;
     }
     if (typeof cell[0] === "string") return cell[0].includes(this.wanted);
     if (cell[0] && this.shapes[cell[0] - 1]) return true;
-    for (let at = 1; at < cell.length; at++) if (this.finds(cell[at])) return true;
+    for (let at = 1; at < cell.length; at++) {
+      const part = cell[at], known = typeof part === "number" ? this.known[part] : 0;   // most parts are shared, and known
+      if (known ? known === 2 : this.finds(part)) return true;
+    }
     return false;
   }
 }

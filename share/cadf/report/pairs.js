@@ -89,7 +89,7 @@ const NAMES = {initiator: "Initiator", target: "Target"};
 
 /** Makes the matrix of those initiators and targets that have most failures, the one side in rows, with their sums. */
 function matrix(found, side, other) {
-  const rows = sums(found, side).slice(0, 14), heads = sums(found, other).slice(0, 11);
+  const rows = sums(found, side).slice(0, 14), heads = sums(found, other).slice(0, 10);
   const cells = new Map(found.map(pair => [pair[side] + " " + pair[other], pair]));
   const label = (column, number, scope) => partyOf(make("th", {scope, title: cut(named(column.names[number] + "\n" + column.texts[number]), 400)}), column, number);
   const line = (head, sum, pairs) => make("tr", {}, head, matrixCell(sum), ...pairs.map(matrixCell));

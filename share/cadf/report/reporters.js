@@ -98,14 +98,16 @@ function reporterRow(own) {
 
 /** Lists what speaks for or against that the log is complete. */
 function completeness() {
-  const days = emptyDays(), made = make("ul", {class: "complete"}), add = (...words) => made.append(make("li", {}, ...words));
+  const days = emptyDays(), made = make("ul", {class: "complete"}), add = (what, ...words) => made.append(make("li", {}, make("b", {}, what + ":"), " ", ...words));
   const of = id("seal").hidden ? "no seal" : id("seal").querySelector("dt").textContent;
-  add(`Made of: ${of}`, ...(id("seal").hidden ? "" : [" ", make("code", {}, id("seal").querySelector("code").textContent)]), ". Compare it with one that was kept elsewhere.");
-  if (id("range").textContent) put(made.appendChild(make("li")), id("range").textContent);
-  add(events.length ? `Events from ${utc(0)} until ${utc(events.length - 1)}. ` : "No event. ", days.length ? `Days without an event: ${counted(days.reduce((sum, [,, count]) => sum + count, 0))}: `
-    + days.slice(0, 20).map(([first, last]) => day(first) + (last > first ? " \u2013 " + day(last) : "")).join(", ") + (days.length > 20 ? ", \u2026" : "") + "." : "No day between them is without one.");
-  add(unsettled.length ? `Open conflicts: ${counted(unsettled.length)}.` : "No open conflict.");
-  add(data.aside ? `Set aside, and in no log: ${counted(data.aside.length)}.` : "What was set aside is not on this page: --set-aside adds it.");
+  add("Made of", of, ...(id("seal").hidden ? "" : [" ", make("code", {}, id("seal").querySelector("code").textContent)]), ". Compare it with one that was kept elsewhere.");
+  if (id("windows").textContent) add("Windows", id("windows").textContent + ".");
+  if (id("range").textContent) put(made.appendChild(make("li", {}, make("b", {}, "Not all:"), " ")), id("range").textContent);
+  add("Events", events.length ? `from ${utc(0)} until ${utc(events.length - 1)} UTC.` : "none.");
+  if (events.length) add("Days without an event", days.length ? counted(days.reduce((sum, [,, count]) => sum + count, 0)) + ": "
+    + days.slice(0, 20).map(([first, last]) => day(first) + (last > first ? " \u2013 " + day(last) : "")).join(", ") + (days.length > 20 ? ", \u2026" : ".") : "none between the first and the last.");
+  add("Open conflicts", unsettled.length ? counted(unsettled.length) + "." : "none.");
+  add("Set aside, and in no log", data.aside ? counted(data.aside.length) + "." : "not on this page: --set-aside adds it.");
   return made;
 }
 
@@ -113,6 +115,7 @@ function completeness() {
 function completePanel(panel) {
   const body = make("tbody"), top = make("div", {class: "pages"}), found = byReporter();
   const heads = heading(["Reporter", "Events", "Contradicted", "An hour late, or more", "First heard (UTC)", "Last heard (UTC)", "Longest time between two of its events"], ["Events", "Contradicted", "An hour late, or more"]);
+  const table = make("table", {class: "pairs"}, make("caption", {}, `Reporters: ${counted(found.length)}; a number leads to its events`), heads, body);
   paged(50, top, body, reporterRow)(found);
-  panel.append(completeness(), top, make("div", {class: "scroll"}, make("table", {class: "pairs"}, make("caption", {}, `Reporters: ${counted(found.length)}; a number leads to its events`), heads, body)));
+  panel.append(completeness(), top, make("div", {class: "scroll"}, table));
 }

@@ -38,10 +38,10 @@ function lackCounts(facts, pick) {
   const kinds = Object.keys(KINDS).filter(kind => facts.some(fact => fact.kind === kind));
   const cell = (side, kind) => {
     const found = facts.filter(fact => fact.side === side && (kind === "" || fact.kind === kind));
-    const label = `${counted(found.length)} ${kind ? KINDS[kind] + "s" : "facts"} that ${SIDES[side]}: list them`;
+    const label = `${counted(found.length)} ${kind ? kindsOf(kind) : "facts"} that ${SIDES[side]}: list them`;
     return make("td", {class: "number"}, found.length ? button(counted(found.length), () => pick(found), {class: "link", "aria-label": label}) : "0");
   };
-  const rows = ["", ...kinds].map(kind => make("tr", {}, make("th", {scope: "row"}, kind ? KINDS[kind] + "s" : "all facts"), cell(0, kind), cell(1, kind)));
+  const rows = ["", ...kinds].map(kind => make("tr", {}, make("th", {scope: "row"}, kind ? kindsOf(kind) : "all facts"), cell(0, kind), cell(1, kind)));
   return make("table", {class: "compare counts-of"}, make("caption", {class: "unseen"}, "Facts that a site lacks, by kind"), heading(["Kind", ...SIDES.map(side => side[0].toUpperCase() + side.slice(1))], []), make("tbody", {}, ...rows));
 }
 
@@ -70,7 +70,8 @@ function betweenSites(facts) {
       const lacking = holder(value), made = make("th", {scope: "col"}, `value ${place}: `);
       return lacking < 0 ? put(made, "both sites") : put(made, cut(names[1 - lacking], 80));
     };
-    const show = from => card.replaceChildren(put(make("h3", {}, make("span", {class: "kind"}, KINDS[kind]), " "), cut(key, 1024)), compareTable(kind, values, from, show, head)[0]);
+    const title = put(make("h3", {}, make("span", {class: "kind"}, KINDS[kind]), " "), cut(key, 1024));
+    const show = from => card.replaceChildren(make("div", {class: "bar"}, title, ...(kind === "E" ? [about(values[0].value)] : [])), compareTable(kind, values, from, show, head)[0]);
     show(0);
     return card;
   });
@@ -95,7 +96,14 @@ function sitesPanel(panel) {
   named.append(". The other site: ");
   panel.append(put(named, cut(other, 400)));
   if (!facts.length) panel.append(make("p", {class: "none"}, "Both sites hold the same facts."));
-  else panel.append(betweenSites(facts), lackCounts(facts, found => { group = found; show(); }), lackTimeline(facts), top,
-    make("div", {class: "scroll"}, make("table", {class: "pairs"}, make("caption", {class: "unseen"}, "Facts that a site lacks"), heading(["Who lacks it", "Kind", "Key", "Time (UTC)", "What"]), body)));
+  else {
+    const table = make("table", {class: "pairs"}, make("caption", {class: "unseen"}, "Facts that a site lacks"), heading(["Who lacks it", "Kind", "Key", "Time (UTC)", "What"]), body);
+    const title = make("h3", {}, "Facts that a site lacks"), pick = found => {
+      group = found;
+      show();
+      title.scrollIntoView();
+    };
+    panel.append(lackCounts(facts, pick), lackTimeline(facts), betweenSites(facts), title, top, make("div", {class: "scroll"}, table));
+  }
   return show;
 }

@@ -98,12 +98,13 @@ function openStrip(width) {
 /** Draws the labels of a frame below its bars. */
 function axis({from, until}, base) {
   const group = draw("g", {class: "axis"});
-  const every = STEPS.find(step => (until - from) / step <= wide / 120) || STEPS[STEPS.length - 1];
+  const every = STEPS.find(step => (until - from) / step <= wide / (step < MONTH ? 120 : 60)) || STEPS[STEPS.length - 1];
   let before = null;
   for (const time of borders(from, until, every)) {
     const x = (time - from) / (until - from) * wide;
     group.append(draw("line", {x1: x, x2: x, y1: base, y2: base + 16}));
-    if (x < wide - 70) group.append(draw("text", {x: x + 3, y: base + 16}, label(time, before, every)));
+    const said = label(time, before, every);
+    if (x + 3 + 6 * said.length < wide) group.append(draw("text", {x: x + 3, y: base + 16}, said));
     before = time;
   }
   return group;
