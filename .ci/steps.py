@@ -65,6 +65,7 @@ STAGES = [
         "built": "pytest -m built",
         "compare": "python3 -m tests.generated.compare",
         "drivers": "python3 -m tests.generated.drivers",
+        "liars": "python3 -m tests.generated.liars --count 4000 " + CADF,
         "week": "examples/week.sh",
         "week-of-folders": "examples/week.sh --by day",
         "many-sites": "examples/many-sites.py",

@@ -20,6 +20,7 @@ MEASURED = re.compile(r"(?<![\w^.,-])(?:%s (?:[kKMGT]?B|bytes|m?s)\b|\d\.\d+\b(?
 SHOW, JOIN, MISSING, SYNC, TAKES = "\n| 100 MB, ", "| join |", "| missing |", "## Exchanges over a line", "## Takes into a site"
 PAGE, LARGE_PAGE, MEMORY = "## The page of", "A page of 1,000,000 events of", "Bytes of memory a byte:"
 FOUND_TIME, FOUND_MEMORY = "Found, processor time a byte", "Found, bytes of memory a byte"
+QUESTIONS = "## Questions to a site"
 SKETCHES, SALTS, DISK = "\n1,000,000 facts:\n", "How many of 100 salts", "| Calls a second |"
 COMMANDS, BOTH, A_CALL = ((JOIN, "`cadf join`"), (MISSING, "`cadf missing`")), ("Sent", "Received"), ("MB a day", "GB a year")
 OPENSSL, SHA256SUM = "`openssl dgst -sha256`", "`sha256sum`"
@@ -45,7 +46,11 @@ FIGURES = {
         ("`rsync` sends {}, and 50 facts are lost. If nothing differs: {} bytes, `rsync` {}.",
          (SYNC, "`rsync -a", *BOTH), (SYNC, "`cadf-sync` again", *BOTH), (SYNC, "`rsync` again", *BOTH)),
         ("Written in {} s, {} of the time of reading and writing the JSON in Python. | Loaded in a browser in {} s,",
-         (PAGE, "Written", "10^5"), (PAGE, "The writer alone", "10^5"), (PAGE, "Loaded", "10^5:1")),
+         (PAGE, "Written", "10^5"), (PAGE, "The writer alone", "10^5"), (PAGE, "Loaded, by the clock", "10^5")),
+        ("The first makes the index: {} s, {} times the time of `cadf show` of all windows (the aim was {}).",
+         (QUESTIONS, "the first question", "Processors"), (QUESTIONS, "the first question", "Processors:1"), (QUESTIONS, "the first question", "Aim")),
+        ("A day takes {} s, a user's month {} s, an identifier {} s, counts by action {} s. Without an index a day takes {} s.",
+         *((QUESTIONS, row, "Processors") for row in ("a day,", "a user's month", "an identifier", "`--count-by action`")), (QUESTIONS, "a day,", "Without")),
         ("take up to {} bytes for each byte of a document of ordinary events. `join` takes {} for each byte of files of format 2, and `missing` {}.",
          (MEMORY, "ordinary events, document", "`check`"), (MEMORY, "ordinary events, file", "`join`"), (MEMORY, "ordinary events, file", "`missing`")),
         ("A take into a folder takes {} MB, if no files", (TAKES, "1,000 MB, 1 event", "Folder:1")),
@@ -56,23 +61,23 @@ FIGURES = {
     ],
     GUIDE: [
         ("cadf missing-by-sketch {/1000} KB, or once more", (SKETCHES, "0", "Sketch")),
-        ("in {/1000} KB, which show 100 differences in {} of 100 cases", (SKETCHES, "0", "Sketch"), (SALTS, "100,", "198")),
+        ("in {/1000} KB, which are enough for 100 differences in {} of 100 cases", (SKETCHES, "0", "Sketch"), (SALTS, "100,", "198")),
         ("take {} bytes in a site", ("| Recorded calls", "45", "Bytes")),
         ("| 0.1 | {} MB | {} GB | `month` | {} MB |", *((DISK, "0.1", column) for column in (*A_CALL, "MB a month"))),
         ("| 1 | {} MB | {} GB | `day` | {} MB |", *((DISK, "1,", column) for column in (*A_CALL, "MB a day"))),
         ("| 10 | {/1000} GB | {} GB | `hour` | {} MB |", *((DISK, "10,", column) for column in (*A_CALL, "MB an hour"))),
         ("| 100 | {/1000} GB | {/1000} TB | `hour` | {} MB |", *((DISK, "100,", column) for column in (*A_CALL, "MB an hour"))),
-        ("a take without a merge {} MB.", (TAKES, "1,000 MB, 1 event", "Folder:1")),
+        ("and a take that merges nothing takes {} MB.", (TAKES, "1,000 MB, 1 event", "Folder:1")),
     ],
     README: [
-        ("`show` of 100 MB takes {} s of user time and {} MB. A take of one event into a folder of 1,000 MB takes {} s and {} MB, into one file of that size {} s.",
+        ("`show` of 100 MB takes {} s of user time and {} MB of memory. A take of one event into a folder of 1,000 MB takes {} s and {} MB, and into one file of that size {} s.",
          (SHOW, "`cadf show`", "User"), (SHOW, "`cadf show`", "Memory"), *((TAKES, "1,000 MB, 1 event", column) for column in ("Folder", "Folder:1", "File"))),
     ],
 }
 # What the pages say with units that is no measurement.
 LIMITS = {
-    PERFORMANCE: ["2.5 GHz", "a site of 1,000 MB", "65 bytes a fact", "81 bytes a cell"],
-    GUIDE: ["65 bytes a fact", "81 bytes a cell", "at most 16 MB of them", "of 1 MB together"],
+    PERFORMANCE: ["2.5 GHz", "a site of 1,000 MB", "a year of a site, 1,006 MB", "65 bytes a fact", "81 bytes a cell"],
+    GUIDE: ["65 bytes a fact", "PCI DSS 4.0", "81 bytes a cell", "up to 16 MB", "smaller files, 1 MB together"],
     README: ["2.5 GHz", "Python 3.9", "8 s  unbuilt"],
 }
 CHART = (("inventory", "sketch", "rdiff", "rdiff -b 1024"), "\n1,000,000 facts:\n", 1 << 10)  # bytes of the first column

@@ -5,8 +5,9 @@
 
 A site of so many days, with so many events of OpenStack's shape a day, of which one in 200 has a second body, on its day or the
 next. First `cadf show` of each window, and the index as the first question makes it, with its bytes. Then questions by the index
-and by --no-index, the list of conflicts, and seals: the first, one by kept roots, and one after a day was taken. With --beside the
-same questions are put to jq over the log's lines, compressed by gzip, to ripgrep over them as they are, and to SQLite.
+and by --no-index, the list of conflicts, and seals: the first, one by kept roots, and one after a day was taken. At last a take of
+a further day where there is no index. With --beside the same questions are put to jq over the log's lines, compressed by gzip, to
+ripgrep over them as they are, and to SQLite.
 """
 import contextlib
 import datetime
@@ -49,7 +50,7 @@ class Site(Trial):
         self.site, self.environment = self.path("site/"), dict(os.environ, CADF=self.binary)
 
     def take(self, days, events):
-        """Takes so many events of each of some days."""
+        """Takes so many events of each of some days. Returns what that took."""
         chance, names = random.Random(str(days)), []
         for day in days:
             own = [event(chance, day, number) for number in range(events)]
@@ -59,9 +60,10 @@ class Site(Trial):
                 names.append(self.path())
                 with open(names[-1], "w", encoding="utf-8") as file:
                     json.dump({"id": "audit", "events": each}, file)
-        self.call("cadf-take", "--windows=all", "--by=day", self.site, *names)
+        found = self.call("cadf-take", "--windows=all", "--by=day", self.site, *names)
         for name in names:
             os.unlink(name)
+        return found
 
     def call(self, name, *words):
         return run_apart([os.path.join(TOP, "tools", name), *words], statuses=(0, 5), environment=self.environment)
@@ -97,7 +99,7 @@ def make_others(site):
     return shlex.quote(lines), shlex.quote(table)
 
 
-def ask_others(site, day, next_day, user):
+def ask_others(site, day, next_day, user, month, next_month):
     """Puts the questions to jq, SQLite and ripgrep."""
     lines, table = make_others(site)
     event, one = "(.event // .)", identifier("e1.1")
@@ -107,8 +109,8 @@ def ask_others(site, day, next_day, user):
     between = '(.eventTime >= "%s" and .eventTime < "%s")'
     site.tell_beside("a day", jq=jq("select%s" % between % (day, next_day)), sqlite=sql("body FROM events WHERE at >= '%s' AND at < '%s'" % (day, next_day)),
                      ripgrep=rg('"eventTime":"%s' % day))
-    site.tell_beside("a user's month", jq=jq('select(.initiator.id == "%s" and %s)' % (user, between % ("2024-01", "2024-02"))),
-                     sqlite=sql("body FROM events WHERE initiator = '%s' AND at >= '2024-01' AND at < '2024-02'" % user), ripgrep=rg(user))
+    site.tell_beside("a user's month", jq=jq('select(.initiator.id == "%s" and %s)' % (user, between % (month, next_month))),
+                     sqlite=sql("body FROM events WHERE initiator = '%s' AND at >= '%s' AND at < '%s'" % (user, month, next_month)), ripgrep=rg(user))
     site.tell_beside("an identifier", jq=jq('select(.id == "%s")' % one), sqlite=sql("body FROM events WHERE id = '%s'" % one), ripgrep=rg(one))
     site.tell_beside("`--count-by action`", jq=jq(".action") + " | sort | uniq -c", sqlite=sql("action, count(*) FROM events GROUP BY action"))
 
@@ -124,22 +126,25 @@ def main():
         size = sum(map(os.path.getsize, names))
         print("%d MB in %d windows\n\n| Call | Processors | Clock | Memory | Without an index |\n|---|---|---|---|---|" % (size / 10 ** 6, len(names)))
         shown = [run_apart([options.binary, "show", name]) for name in names]
-        site.tell("`cadf show` of each window", best_of(shown)._replace(processors=sum(each.processors for each in shown)))
+        site.tell("`cadf show` of each window", best_of(shown)._replace(**{name: sum(getattr(each, name) for each in shown) for name in ("processors", "wall")}))
         day = (FIRST + datetime.timedelta(days=options.days // 2)).date()
         of_day, user, of_site = ["--since=%s" % day, "--until=%s" % (day + datetime.timedelta(days=1))], identifier("u7"), {"with_other": False}
         site.tell("the first question, which makes the index", site.call("cadf-events", *of_day, site.site))
         print("| its bytes | %.3f of the site | | | |" % (os.path.getsize(os.path.join(site.site, ".index")) / size))
         site.tell_best("a day", "cadf-events", *of_day)
-        site.tell_best("a user's month", "cadf-events", "--initiator", user, "--since=2024-01", "--until=2024-02")
+        month, next_month = ("2024-03", "2024-04") if options.days > 90 else ("2024-01", "2024-02")
+        site.tell_best("a user's month", "cadf-events", "--initiator", user, "--since", month, "--until", next_month)
         site.tell_best("an identifier", "cadf-events", "--id", identifier("e1.1"))
         site.tell_best("`--count-by action`", "cadf-events", "--count-by", "action")
         if options.beside:
-            ask_others(site, day, day + datetime.timedelta(days=1), user)
+            ask_others(site, day, day + datetime.timedelta(days=1), user, month, next_month)
         site.tell_best("the list of conflicts", "cadf-conflicts", **of_site)
         site.tell("the first seal", site.call("cadf-seal", site.site))
         site.tell_best("a seal by kept roots", "cadf-seal", **of_site)
-        site.take([options.days], options.events)
+        taken = site.take([options.days], options.events)
         site.tell("a seal after a day was taken", site.call("cadf-seal", site.site))
+        os.unlink(os.path.join(site.site, ".index"))
+        site.tell("a take of a day", taken, "%.2f s" % site.take([options.days + 1], options.events).processors)
 
 
 if __name__ == "__main__":

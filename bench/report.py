@@ -5,11 +5,15 @@
 
 The events have 1,250 bytes of log text each, three random identifiers, a chain with times, a tag. BINARY is crates/cadf/out/cadf
 unless given. Each number is the least of the runs. Beside writing stand `cadf`'s own calls and Python's json.loads and json.dumps
-of the log text; beside loading, Chromium's JSON.parse of the log text; beside filter and search, jq and grep on the log text.
-The browser's part needs Debian's chromium, chromium-driver and python3-selenium, and is left out where they aren't there.
+of the log text, and SQLite, which takes the events into a table with indexes; beside loading, Chromium's JSON.parse of the log text;
+beside filter and search, jq and grep on the log text, and the same question to the table: how many events answer, and the first
+hundred of them in order. The page has to count as many as the table. The browser's part needs Debian's chromium, chromium-driver and python3-selenium, and is left out where they aren't there.
 """
+import contextlib
+import json
 import os
 import shutil
+import sqlite3
 import sys
 import tempfile
 import time
@@ -59,10 +63,47 @@ def canned_cadf(place, binary, document):
     conflicts = written(os.path.join(place, "conflicts"), binary, "show", "--conflicts", replica)
     path = os.path.join(place, "canned")
     with open(path, "w") as file:
-        file.write('#!/bin/sh\ncase "$1 $2" in join*) exec cat %s;; "show --conflicts") exec cat %s;; *) exec cat %s;; esac\n'
-                   % (replica, conflicts, log))
+        file.write('#!/bin/sh\ncase "$1 $2" in --version*) exec %s --version;; join*) exec cat %s;; "show --conflicts") exec cat %s;; *) exec cat %s;; esac\n'
+                   % (binary, replica, conflicts, log))
     os.chmod(path, 0o755)
     return path, replica, log
+
+
+REPORTED = "(SELECT number FROM reported WHERE reporter = 'relay-8')"
+LATE = "number IN (SELECT number FROM reported WHERE julianday(reported) - julianday(at) >= 300 / 86400.0)"
+
+
+def make_table(path, log):
+    """Takes the events of a log text into a table with indexes, as a person would who asks SQLite, and says how long that took."""
+    start = time.process_time()
+    with open(log, encoding="utf-8") as file, contextlib.closing(sqlite3.connect(path)) as table:
+        table.execute("CREATE TABLE events (number INTEGER PRIMARY KEY, at TEXT, id TEXT, action TEXT, outcome TEXT, initiator TEXT, target TEXT, body TEXT)")
+        table.execute("CREATE TABLE reported (number INTEGER, reporter TEXT, reported TEXT, at TEXT)")
+        for number, each in enumerate(json.load(file)["events"]):
+            named = [each["eventTime"], each["id"], each["action"], each["outcome"], each["initiator"]["name"], each["target"]["name"]]
+            table.execute("INSERT INTO events VALUES (?, ?, ?, ?, ?, ?, ?, ?)", [number, *named, json.dumps(each)])
+            steps = [(step.get("reporterId") or step["reporter"]["id"], step["reporterTime"]) for step in each["reporterchain"]]
+            table.executemany("INSERT INTO reported VALUES (?, ?, ?, ?)", [(number, *step, each["eventTime"]) for step in steps])
+        for name, columns in ("by_outcome", "events (outcome)"), ("by_initiator", "events (initiator)"), ("by_reporter", "reported (reporter)"):
+            table.execute("CREATE INDEX %s ON %s" % (name, columns))
+        table.commit()
+    print("  %-34s %7s   %7.2f s of processors, %d bytes" % ("SQLite: the table", "", time.process_time() - start, os.path.getsize(path)), flush=True)
+
+
+def ask_table(path, question, runs):
+    """The milliseconds that SQLite takes to count what answers and to hand out the first hundred, and their number."""
+    taken, count = [], 0
+    with contextlib.closing(sqlite3.connect(path)) as table:
+        for _ in range(runs):
+            start = time.perf_counter()
+            if question.startswith("SELECT"):
+                count = len(table.execute(question).fetchall())
+            else:
+                where, _, order = question.partition(" ORDER BY ")
+                count = table.execute("SELECT count(*) FROM events WHERE %s" % where).fetchone()[0]
+                table.execute("SELECT * FROM events WHERE %s ORDER BY %s LIMIT 100" % (where, order or "at")).fetchall()
+            taken.append((time.perf_counter() - start) * 1000)
+    return min(taken), count
 
 
 def measure_writing(place, binary, count, runs):
@@ -87,32 +128,42 @@ def measure_writing(place, binary, count, runs):
     return log, page
 
 
-LOADED = "return Number(document.documentElement.dataset.ready || 0)"
-TIMED = "const start = performance.now(); %s; return performance.now() - start"
+LOADED, LAYOUT = "return Number(document.documentElement.dataset.ready || 0)", "; document.body.offsetHeight"
 TYPED = ("const box = document.querySelector('%s'), real = setTimeout, asked = []; window.setTimeout = action => asked.push(action); box.value = '%s'; box.dispatchEvent(new Event('input'));"
-         " window.setTimeout = real; const start = performance.now(); asked.forEach(action => action()); return performance.now() - start")
-STEPS = (("filter by outcome", TIMED % "document.querySelector('#outcomes input').click()"),
-         ("sort by initiator", TIMED % "document.querySelector('[data-sort=initiator] button').click()"),
-         ("search", TYPED % ("#search", "10.0.3.77")), ("search of three words", TYPED % ("#search", "user7 delete -neutron")), ("all again", TYPED % ("#search", "")),
-         ("late, for the first time", TYPED % ("#late", "5min")), ("one reporter, for the first time", TYPED % ("#via", "=relay-8")), ("initiator", TYPED % ("[data-filter=initiator]", "=user7")),
-         ("who to what", TIMED % "document.getElementById('clear').click(); document.getElementById('tab-pairs').click()"))
+         " window.setTimeout = real; asked.forEach(action => action())")
+CLEAR, SHOWN = "document.getElementById('clear').click(); document.getElementById('tab-events').click()", "return document.querySelector('#panel-events .where').textContent"
+STEPS = (("failures", "document.querySelector('#outcomes button').click()", "outcome = 'failure'"),
+         ("search", TYPED % ("#search", "10.0.3.77"), "body LIKE '%10.0.3.77%'"),
+         ("search of three words", TYPED % ("#search", "user7 delete -neutron"), "body LIKE '%user7%' AND body LIKE '%delete%' AND body NOT LIKE '%neutron%'"),
+         ("late, for the first time", TYPED % ("#late", "5min"), LATE), ("late", TYPED % ("#late", "5min"), LATE),
+         ("one reporter, for the first time", TYPED % ("#via", "=relay-8"), "number IN " + REPORTED), ("one reporter", TYPED % ("#via", "=relay-8"), "number IN " + REPORTED),
+         ("initiator", TYPED % ("[data-filter=initiator]", "=user7"), "initiator = 'user7'"),
+         ("sort by initiator", "document.querySelector('[data-sort=initiator] button').click()", "1 ORDER BY initiator, at"),
+         ("who to what", "document.getElementById('tab-pairs').click()", "SELECT initiator, target, count(*), sum(outcome = 'failure') FROM events GROUP BY initiator, target"))
 
 
-def measure_browser(log, page, runs):
-    """Measures the page in Chromium, and its JSON.parse of the log text, each run in a new browser."""
+def measure_browser(log, page, table, runs):
+    """Measures the page in Chromium, and its JSON.parse of the log text, each run in a new browser; and what the table answers."""
     with open(log, encoding="utf-8") as file, open(log + ".html", "w", encoding="utf-8") as out:
         out.write('<meta charset="utf-8"><script type="application/json" id="log">' + file.read().replace("<", "\\u003c") + "</script>")
-    found = {}
+    found, counts = {}, {}
     for _ in range(runs):
-        for what, milliseconds in browsed(log, page):
+        for what, milliseconds, shown in browsed(log, page):
             found[what] = min(milliseconds, found.get(what, milliseconds))
+            counts[what] = 0 if shown == "none" else int(shown.split(" of ")[-1].replace(",", ""))
+    asked = {what: ask_table(table, question, runs) for what, _, question in STEPS}
     for what, milliseconds in found.items():
-        print("  %-34s %7.0f ms" % (what, milliseconds))
+        print("  %-34s %7.0f ms %s" % (what, milliseconds, "%7.0f ms by SQLite" % asked[what][0] if what in asked else ""))
     print("  loading to JSON.parse of the log text: %.2f; a filter to loading: %.3f" % (
-        found["loading"] / found["JSON.parse of the log text"], found["filter by outcome"] / found["loading"]))
+        found["loading"] / found["JSON.parse of the log text"], found["failures"] / found["loading"]))
+    other = {what: (counts[what], count) for what, (_, count) in asked.items() if what != "who to what" and counts[what] != count}
+    if other:
+        sys.exit("the page counts otherwise than the table: %s" % other)
 
 
-def browsed(log, page):
+@contextlib.contextmanager
+def chromium():
+    """Chromium without a window."""
     from selenium import webdriver
     from selenium.webdriver.chrome.service import Service
     options = webdriver.ChromeOptions()
@@ -121,17 +172,35 @@ def browsed(log, page):
         options.add_argument(word)
     driver = webdriver.Chrome(service=Service(shutil.which("chromedriver")), options=options)
     try:
+        driver.execute_cdp_cmd("Performance.enable", {"timeDomain": "threadTicks"})
+        yield driver
+    finally:
+        driver.quit()
+
+
+def worked(driver):
+    """The milliseconds of a processor that the page's thread has worked, which what else the machine does makes little longer."""
+    return 1000 * next(each["value"] for each in driver.execute_cdp_cmd("Performance.getMetrics", {})["metrics"] if each["name"] == "TaskDuration")
+
+
+def browsed(log, page):
+    """Yields what was done, with layout, the milliseconds of a processor that it took, and what the page then says of the number of events."""
+    with chromium() as driver:
         driver.get("file://" + log + ".html")
-        yield "JSON.parse of the log text", driver.execute_script(
-            "const text = document.getElementById('log').textContent; const start = performance.now(); window.kept = JSON.parse(text); return performance.now() - start")
+        before = worked(driver)
+        driver.execute_script("window.kept = JSON.parse(document.getElementById('log').textContent)")
+        yield "JSON.parse of the log text", worked(driver) - before, "none"
+    with chromium() as driver:
         driver.get("file://" + page)
         while not driver.execute_script(LOADED):
             time.sleep(0.05)
-        yield "loading", driver.execute_script(LOADED)
-        for what, script in STEPS:
-            yield what, driver.execute_script(script)
-    finally:
-        driver.quit()
+        yield "loading", worked(driver), "none"
+        yield "loading, by the clock", driver.execute_script(LOADED), "none"
+        for what, script, _ in STEPS:
+            driver.execute_script(CLEAR + LAYOUT)
+            before = worked(driver)
+            driver.execute_script(script + LAYOUT)
+            yield what, worked(driver) - before, driver.execute_script(SHOWN)
 
 
 def main():
@@ -145,8 +214,10 @@ def main():
     for count in map(int, options.events.split(",")):
         with tempfile.TemporaryDirectory() as place:
             log, page = measure_writing(place, options.binary, count, options.runs)
+            table = os.path.join(place, "table")
+            make_table(table, log)
             if selenium and shutil.which("chromium") and shutil.which("chromedriver"):
-                measure_browser(log, page, options.runs)
+                measure_browser(log, page, table, options.runs)
 
 
 if __name__ == "__main__":

@@ -19,6 +19,11 @@ def of_lines(version, *values, log="g"):
     return sealed(head(FIRST_LINES[version], log) + [spelled(value).encode() for value in values])
 
 
+def erased_of(listed):
+    """The erased list of all that a sealed list has."""
+    return sealed([b"CADF-ERASED 1", *listed.split(b"\n")[1:-2]])
+
+
 if __name__ == "__main__":
     with open(sys.argv[2], "rb") as file:
         sys.stdout.buffer.write(in_format(int(sys.argv[1]), file.read()))

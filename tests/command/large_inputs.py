@@ -1,7 +1,7 @@
 """Inputs for the command under limits: of about 1 MB, as deep as can be read, and small ones beside them."""
 import json
 
-from tests.formats import in_format
+from tests.formats import erased_of, in_format
 from tests.machine import ended, put
 
 MADE = {"one.cadf": "join log.json", "two.cadf": "join other.json", "both.cadf": "join one.cadf two.cadf",
@@ -9,7 +9,8 @@ MADE = {"one.cadf": "join log.json", "two.cadf": "join other.json", "both.cadf":
         "no.inventory": "inventory small.json", "two.sketch": "sketch --cells 20001 two.cadf",
         "no.sketch": "sketch --cells 3 small.json", "one.seal": "seal one.cadf", "one.proof": "prove one.cadf one.cadf",
         "no.seal": "seal small.json", "no.proof": "prove small.json small.json", "deep.seal": "seal deep.cadf",
-        "deep.proof": "prove deep.json deep.cadf"}
+        "deep.proof": "prove deep.json deep.cadf", "no.sealed": "sealed no.cadf", "two.sealed": "sealed two.cadf",
+        "two.seal": "seal two.cadf", "one.growth": "growth two.sealed one.cadf", "deep.growth": "growth no.sealed deep.cadf"}
 PLAN = "learn 0 %s\nask 1\nanswer 0 1\ndeliver 2 1\n"
 EVENTS = 2500
 
@@ -43,3 +44,5 @@ def prepare(binary, folder):
         put(folder, name, content)
         if name in ("one.cadf", "two.cadf", "deep.cadf"):
             put(folder, name.replace(".cadf", ".1.cadf"), in_format(1, content))
+        if name.endswith(".sealed"):
+            put(folder, name.replace(".sealed", ".erased"), erased_of(content))

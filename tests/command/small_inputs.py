@@ -1,7 +1,7 @@
 """Inputs for the command: small ones of each kind, those of the worked calls, damaged ones, and one of some 60 events."""
 import json
 
-from tests.formats import in_format, of_lines
+from tests.formats import erased_of, in_format, of_lines
 from tests.machine import ended, put
 
 MADE = {"log.cadf": "join log.json", "other.cadf": "join other.json", "both.cadf": "join log.json other.json",
@@ -12,7 +12,10 @@ MADE = {"log.cadf": "join log.json", "other.cadf": "join other.json", "both.cadf
         "few.sketch": "sketch --cells 3 --salt 1 log.json", "one.sketch": "sketch --cells 12 one.cadf",
         "log.seal": "seal log.json", "both.seal": "seal both.cadf", "one.seal": "seal one.cadf", "many.seal": "seal many.cadf",
         "both.proof": "prove both.cadf both.cadf", "event.proof": "prove event.json both.cadf", "chains.proof": "prove chains.cadf one.cadf",
-        "many.proof": "prove many.cadf many.cadf"}
+        "many.proof": "prove many.cadf many.cadf",
+        "log.sealed": "sealed log.json", "both.sealed": "sealed both.cadf", "one.sealed": "sealed one.cadf",
+        "both.growth": "growth log.sealed both.cadf", "log.growth": "growth both.sealed log.cadf",
+        "many.growth": "growth log.sealed many.cadf"}
 
 
 def event(number, **more):
@@ -68,7 +71,10 @@ def inputs_of(name, whole):
     """Further inputs that a whole one gives, by name: a replica file of format 1, and damaged ones."""
     if not name.endswith(".cadf"):
         front, kind = name.split(".")
-        return {"cut." + kind: whole[:-9]} if front == ("both" if kind == "proof" else "log") else {}
+        found = {"cut." + kind: whole[:-9]} if front == ("both" if kind in ("proof", "growth") else "log") else {}
+        if kind == "sealed":
+            found.update({front + ".erased": erased_of(whole), "cut.erased": erased_of(whole)[:-9]})
+        return found
     old = in_format(1, whole)
     found = {name.replace(".cadf", ".1.cadf"): old}
     if name == "both.cadf":

@@ -180,6 +180,11 @@ def test_shared_steps(folder, under):
     ("missing-by-sketch small.json zeros", "no.sketch", 2, b"trailing bytes", MOST),
     ("verify zeros small.json no.proof", "no.seal", 1, b"trailing bytes", MOST),
     ("verify no.seal small.json zeros", "no.proof", 3, b"trailing bytes", MOST),
+    ("growth zeros small.json", "no.sealed", 1, b"trailing bytes", MOST),
+    ("omit zeros small.json", "no.erased", 1, b"trailing bytes", MOST),
+    ("grew zeros no.seal deep.growth", "no.seal", 1, b"trailing bytes", MOST),
+    ("grew no.seal deep.seal zeros", "deep.growth", 3, b"trailing bytes", MOST),
+    ("grew no.seal deep.seal deep.growth --erased zeros", "no.erased", 4, b"trailing bytes", MOST),
 ])
 @pytest.mark.parametrize("size", [GREATEST, GREATEST + 1])
 def test_greatest_size(folder, under, line, front, number, fault, room, size):

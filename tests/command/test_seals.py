@@ -60,6 +60,10 @@ def test_the_page_checks_a_fact(name, tmp_path):
     for change in changes:
         changed = closed("".join(each + "\n" for each in change))
         assert all(of_the_page(tmp_path, own, changed, digits(each)) != "present\n" for each in (fact, other)), changed
+    for place in (0, 1, -2):  # a line that is no part of the tree doesn't count
+        named = whole.split("\n")
+        named[place] = "P " + digits(other)
+        assert of_the_page(tmp_path, own, "\n".join(named), digits(other)) != "present\n"
     for changed in (read("size-7.seal"), read("other-root.seal"), read("other-number.seal")):
         assert of_the_page(tmp_path, changed.decode(), whole, digits(fact)) != "present\n"
 

@@ -35,6 +35,10 @@ ENDS = [
     ("missing-by cut.json absent.cadf", 3, "input 2: read fault"),
     ("missing-by-sketch cut.json absent.sketch", 3, "input 2: read fault"),
     ("verify no-root.seal absent.json there.proof", 3, "input 2: read fault"),
+    ("growth cut.json log.json absent.json", 3, "input 3: read fault"),
+    ("omit absent.cadf absent.json", 3, "input 1: read fault"),
+    ("grew no-root.seal there.proof absent.proof", 3, "input 3: read fault"),
+    ("grew --erased absent.cadf no-root.seal there.proof there.proof", 3, "input 4: read fault"),
     ("prove cut.json log.json absent.json", 3, "input 3: read fault"),
 ]
 # Command lines that no command takes.

@@ -18,7 +18,9 @@ REQUESTED, TASKS, REQUEST = ("crates/cadf_tool/" + name for name in ("specs/Requ
 CALL = "crates/cadf_c/specs/Statuses.antt"
 # What is made of sources where no file comes of it, and the laws that speak of that.
 OTHERS = {
-    "proof_of_union": ("cadf_evidence", "made_proofs_are_told"),
+    "proof_for": ("cadf_evidence", "made_proofs_are_told"),
+    "growth_for": ("cadf_evidence", "made_proofs_are_told"),
+    "growth_line": ("cadf_evidence", "told_growth_is_so"),
     "verdict_of": ("cadf_evidence", "told_facts_are_so"),
     "final_sites": ("cadf_rehearsal", "rehearsal_equals_full_exchange"),
 }

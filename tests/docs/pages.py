@@ -13,8 +13,8 @@ The pages are README, CONTRIBUTING, docs/*.md, the manual page and the README of
   a block ```sh is a script of the repository, or a line of tests/docs/elsewhere names the script that runs it.
 
 README has at most 200 lines. Lines have at most 120 characters, those of other pages than README but for tables and
-code. docs/ARCHITECTURE.md has the picture of the crates that crates.txt makes, and its layers have each crate of the
-product once, with none that it depends on above it. Each link of every Markdown file into the repository leads to a
+code. docs/ARCHITECTURE.md has the picture of the crates that crates.txt makes, a row for the arrows of each crate and
+one for what it owns, and its layers have each crate of the product once, with none that it depends on above it. Each link of every Markdown file into the repository leads to a
 file, and to a heading of it. Before all this the script refuses wrong pages of its own, one for each fault.
 """
 import os
@@ -22,6 +22,7 @@ import re
 import runpy
 import shutil
 import sys
+from collections import Counter
 
 from build.plan import crates_of
 from tests import TOP, text_of, tracked
@@ -216,16 +217,21 @@ def level(crates, name):
     return max((level(crates, other) + 1 for other in crates[name]), default=0)
 
 
+def arrows(crates, name):
+    """What a crate depends on, but for those that it reaches by another."""
+    reached = set().union(*(below(crates, other) for other in crates[name]))
+    return [other for other in crates[name] if other not in reached]
+
+
 def picture():
-    """The crates by their levels, each with those that it depends on, but for those that it reaches by another."""
+    """The crates by their levels, each with those to which its arrows lead."""
     crates = dependencies()
     width = max(map(len, crates))
     lines, last = [], None
     for name in sorted(crates, key=lambda name: -level(crates, name)):
-        reached = set().union(*(below(crates, other) for other in crates[name]))
-        others = ", ".join(other for other in crates[name] if other not in reached)
+        others = arrows(crates, name)
         number = level(crates, name)
-        arrow = "--> " + others if others else ""
+        arrow = "--> " + ", ".join(others) if others else ""
         lines.append(("%3s  %-*s %s" % ("" if number == last else number, width, name, arrow)).rstrip())
         last = number
     return "```text\n%s\n```\n" % "\n".join(lines)
@@ -256,39 +262,72 @@ def wrong_layers(name, text):
             yield "%s: %s is above %s, which depends on it" % (name, other, crate)
 
 
-FAULTS = (long_sentences, phrases, dead_links, idle_commands, wrong_picture, wrong_layers, long_or_wide)
+def rows(text, heading):
+    """The names in code of the first cells of the rows below this heading of a table, wherever it stands, and those of the second."""
+    tables = re.findall(r"(?m)^%s\n\|[-|]+\n((?:\|.*\n)*)" % re.escape(heading), text)
+    cells = [row.split(" | ") for table in tables for row in table.splitlines()]
+    return [(re.findall(r"`(\w+)`", first), re.findall(r"`(\w+)`", second)) for first, second, *_ in cells]
+
+
+def wrong_rows(name, text):
+    """A line for each crate that the tables of a page of the crates don't have in one row, or of which the row has other arrows."""
+    if not name.endswith("ARCHITECTURE.md"):
+        return
+    crates, owners = dependencies(), [crate for first, _ in rows(text, OWNERS) for crate in first]
+    for crate in PRODUCT:
+        if owners.count(crate) != 1:
+            yield "%s: %d rows say what %s owns" % (name, owners.count(crate), crate)
+    told = Counter((crate, *sorted(second)) for first, second in rows(text, ARROWS) for crate in first)
+    wanted = Counter((crate, *sorted(arrows(crates, crate))) for crate in crates if crates[crate])
+    for crate, *others in (told - wanted) + (wanted - told):
+        yield "%s: one row has to say what the arrows of %s are for, and here %d say those to %s" % (
+            name, crate, told[(crate, *others)], " and ".join(others))
+
+
+OWNERS, ARROWS = "| Crate | Owns | Public names |", "| From | To | Because |"
+FAULTS = (long_sentences, phrases, dead_links, idle_commands, wrong_picture, wrong_layers, wrong_rows, long_or_wide)
 LONG = " ".join(["word"] * MOST_WORDS)
 BOXES = "docs/ARCHITECTURE.md"
 PRODUCT = [name for name in crates_of(TOP) if name.startswith("cadf")]  # each after those that it depends on
-RIGHT = picture() + "\n+--+\n" + "".join("| %s |\n+--+\n" % crate for crate in reversed(PRODUCT))
-# A page, and how many faults each of FAULTS finds in it.
+OWNER, ARROW = "| `cadf_words` | x | x |\n", "| `cadf_scan` | `cadf_atom` | x |\n"
+TABLES = "%s\n|---|\n%s\n%s\n|---|\n%s\n" % (
+    OWNERS, "".join(OWNER.replace("cadf_words", crate) for crate in PRODUCT),
+    ARROWS, "".join("| `%s` | %s | x |\n" % (crate, ", ".join("`%s`" % other for other in arrows(dependencies(), crate)))
+                    for crate, others in dependencies().items() if others))
+RIGHT = picture() + TABLES + "+--+\n" + "".join("| %s |\n+--+\n" % crate for crate in reversed(PRODUCT))
+# A page, and how many faults are found in it, by those of FAULTS that find any.
 TRIALS = [
-    ("right.md", LONG + ".\n- %s\n- %s\n# %s\n| %s | x |\n\n    %s x\n" % ((LONG,) * 5), (0, 0, 0, 0, 0, 0, 0)),
-    ("right.md", "See `%s x` in [%s](#a-b), 1.5 or a.b too\n\n# A b!\n" % (LONG, "`x y`"), (0, 0, 0, 0, 0, 0, 0)),
-    ("long.md", LONG + " x.\n", (1, 0, 0, 0, 0, 0, 0)),
-    ("long.md", "  - x\n    " + LONG + "\n", (1, 0, 0, 0, 0, 0, 0)),
-    ("long.md", LONG + "\nx e.txt 1.5 `a. b`.\n", (1, 0, 0, 0, 0, 0, 0)),
-    ("long.1", ".SH NAME\n%s\n.B x\ny.\n.TP\n.B z\n%s\n" % (LONG, LONG), (1, 0, 0, 0, 0, 0, 0)),
-    ("phrase.md", "A want\nof memory.\n\n| want of memory | `want of memory` |\n", (0, 2, 0, 0, 0, 0, 0)),
-    ("link.md", "[a](docs/NOWHERE.md) [b](docs/FORMATS.md#nowhere) [c](#nowhere) [d](CONTRIBUTING.md#the-gate)\n", (0, 0, 3, 0, 0, 0, 0)),
-    ("command.md", "    $ cadf\n\n```sh\nno-such-command   # why\npython3 -m tests.no\npython3 -m tests\n```\n", (0, 0, 0, 3, 0, 0, 0)),
-    (BOXES, RIGHT, (0, 0, 0, 0, 0, 0, 0)),
-    (BOXES, RIGHT.replace("  0  cadf_", "  1  cadf_"), (0, 0, 0, 0, 1, 0, 0)),
-    (BOXES, RIGHT.replace("| cadf_words |", "| |"), (0, 0, 0, 0, 0, 1, 0)),
-    (BOXES, RIGHT.replace("| cadf_words |", "| cadf_words, cadf_words |"), (0, 0, 0, 0, 0, 1, 0)),
-    (BOXES, RIGHT.replace("| cadf_words |", "| |").replace("+--+", "+--+\n| cadf_words |\n+--+", 1), (0, 0, 0, 0, 0, 1, 0)),
-    ("README.md", "x\n\n" * 101, (0, 0, 0, 0, 0, 0, 1)),
-    ("README.md", "    " + "x" * 117 + "\n", (0, 0, 0, 0, 0, 0, 1)),
-    ("docs/WIDE.md", "%s\n\n    %s\n\n| %s |\n\n```\n%s\n```\n" % (("x" * 121,) * 4), (0, 0, 0, 0, 0, 0, 1)),
+    ("right.md", LONG + ".\n- %s\n- %s\n# %s\n| %s | x |\n\n    %s x\n" % ((LONG,) * 5), {}),
+    ("right.md", "See `%s x` in [%s](#a-b), 1.5 or a.b too\n\n# A b!\n" % (LONG, "`x y`"), {}),
+    ("long.md", LONG + " x.\n", {long_sentences: 1}),
+    ("long.md", "  - x\n    " + LONG + "\n", {long_sentences: 1}),
+    ("long.md", LONG + "\nx e.txt 1.5 `a. b`.\n", {long_sentences: 1}),
+    ("long.1", ".SH NAME\n%s\n.B x\ny.\n.TP\n.B z\n%s\n" % (LONG, LONG), {long_sentences: 1}),
+    ("phrase.md", "A want\nof memory.\n\n| want of memory | `want of memory` |\n", {phrases: 2}),
+    ("link.md", "[a](docs/NOWHERE.md) [b](docs/FORMATS.md#nowhere) [c](#nowhere) [d](CONTRIBUTING.md#the-gate)\n", {dead_links: 3}),
+    ("command.md", "    $ cadf\n\n```sh\nno-such-command   # why\npython3 -m tests.no\npython3 -m tests\n```\n", {idle_commands: 3}),
+    (BOXES, RIGHT, {}),
+    (BOXES, RIGHT.replace("  0  cadf_", "  1  cadf_"), {wrong_picture: 1}),
+    (BOXES, RIGHT.replace("| cadf_words |", "| |"), {wrong_layers: 1}),
+    (BOXES, RIGHT.replace("| cadf_words |", "| cadf_words, cadf_words |"), {wrong_layers: 1}),
+    (BOXES, RIGHT.replace("| cadf_words |", "| |").replace("+--+", "+--+\n| cadf_words |\n+--+", 1), {wrong_layers: 1}),
+    (BOXES, RIGHT.replace(OWNER, OWNER * 2), {wrong_rows: 1}),
+    (BOXES, RIGHT.replace(OWNER, ""), {wrong_rows: 1}),
+    (BOXES, RIGHT.replace(ARROW, ARROW * 2), {wrong_rows: 1}),
+    (BOXES, RIGHT.replace(ARROW, ""), {wrong_rows: 1}),
+    (BOXES, RIGHT.replace(ARROW, ARROW.replace("cadf_atom", "cadf_line")), {wrong_rows: 2}),
+    ("README.md", "x\n\n" * 101, {long_or_wide: 1}),
+    ("README.md", "    " + "x" * 117 + "\n", {long_or_wide: 1}),
+    ("docs/WIDE.md", "%s\n\n    %s\n\n| %s |\n\n```\n%s\n```\n" % (("x" * 121,) * 4), {long_or_wide: 1}),
 ]
 
 
 def blind_faults():
     """A line for each trial in which not just the right faults are found."""
     for name, text, expected in TRIALS:
-        found = tuple(len(list(fault(name, text))) for fault in FAULTS)
-        if found != expected:
-            yield "the trial %s %r: found %r, not %r" % (name, text[:40], found, expected)
+        found = Counter(fault.__name__ for fault in FAULTS for _ in fault(name, text))
+        if found != {fault.__name__: count for fault, count in expected.items()}:
+            yield "the trial %s %r: found %r" % (name, text[:40], dict(found))
     if len(list(words_of_programs("tools/x", "a\nis_contested\nContested, uncontested\n"))) != 2:
         yield "the words of a program are found otherwise"
 

@@ -9,6 +9,7 @@ import tempfile
 import pytest
 
 from tests import TOP, text_of
+from tests.docs import demo_picture
 from tests.machine import said
 from tests.tools.programs import loaded
 
@@ -41,13 +42,24 @@ def shown_by(binary, folder):
 def test_demo(tmp_path):
     command, text = shown_by(SECOND, tmp_path)
     assert command.splitlines()[0] == SAID["second"]
-    assert text == blocks("See it, test it")[0] and text.endswith("\nThree sites, one file, byte for byte.\n")
+    assert text.endswith("\nThree sites, one file, byte for byte.\n")
+    assert demo_picture.picture(text) == text_of("docs", "demo.svg")  # python3 -m tests.docs.demo_picture makes it
 
 
 def test_demo_of_the_built_command(cadf, tmp_path):
     command, text = shown_by(cadf, tmp_path)
     assert re.match(r"The command that runs is .*, cadf \d", command)
-    assert text == blocks("See it, test it")[0]
+    assert demo_picture.picture(text) == text_of("docs", "demo.svg")
+
+
+def test_picture():
+    """Sites that are equal have one colour, and others another; each line stands in it as it was printed."""
+    digests = ["%016x" % number for number in range(6)]
+    text = "1. <a> & b\n  $ cadf-sync\n    " + " ".join([*digests, digests[0]]) + "\n"
+    rows = re.findall(r"(?m)^<text .*?>(.*)</text>$", demo_picture.picture(text))
+    assert [re.sub("<.*?>", "", row) for row in rows] == ["1. &lt;a&gt; &amp; b", "  $ cadf-sync", text.splitlines()[2]]
+    colours = re.findall('<tspan fill="(#[0-9a-f]{6})">(.*?)</tspan>', rows[2])
+    assert [digest for _, digest in colours] == [*digests, digests[0]] and len({colour for colour, _ in colours}) == 6 and colours[0] == colours[-1]
 
 
 FAKE = '#!/bin/sh\n[ "$*" = --version ] && echo "cadf 9.9" && exit\necho "fake: $*" >&2\nexit 3\n'
@@ -164,7 +176,7 @@ def test_parts(program, monkeypatch, tmp_path, there, with_build, titles, wanted
 
 def test_output_of_test(program, monkeypatch, tmp_path):
     """README shows how it begins and ends where nothing is built and no kit is there."""
-    first, beat, *_, counts, last = blocks("See it, test it")[1].splitlines()
+    first, beat, *_, counts, last = blocks("See it, test it")[0].splitlines()
     monkeypatch.setattr(program, "TOP", str(tmp_path))
     monkeypatch.setenv("PATH", str(tmp_path))
     assert re.fullmatch(r"test: %s: %s" % (program.NO_BUILD[0], LONG), first) and re.fullmatch(r" +\d s  (\w+) \d+ %", beat).group(1) in program.NO_BUILD[2]

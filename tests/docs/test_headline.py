@@ -29,12 +29,12 @@ def test_without_the_law_of_runs_the_run_is_named():
 
 def test_without_the_law_of_memory_each_call_of_c_is_named():
     found = list(headline.faults([EXCHANGE, MEMORY.replace("IsMadeFor q", "IsAnyMadeFor q")]))
-    assert len(found) == 15 and "the clause of over as its premise" in found[0] and "the clause of cadf_split as its premise" in found[-1]
+    assert len(found) == 19 and "the clause of over as its premise" in found[0] and "the clause of cadf_split as its premise" in found[-1]
 
 
 def test_a_call_of_c_that_says_nothing_of_the_text_is_named():
     found = list(headline.faults(call=text_of(headline.CALL).replace("IsMadeFor q", "IsAny q")))
-    assert len(found) == 14 and all(line.endswith(": it has none") for line in found)
+    assert len(found) == 18 and all(line.endswith(": it has none") for line in found)
 
 
 def test_without_a_law_of_schedules_the_rehearsal_is_named(monkeypatch):

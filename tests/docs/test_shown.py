@@ -9,14 +9,24 @@ from tests.docs import shown
 RIGHT = "    $ printf 'a\\nb\\nc\\n'\n    a\n    ..\n    $ cat <<'END'\n    x\n    END\n    x\n\n    $ true\n\n    tools/cadf-take x\n"
 
 
-@pytest.mark.parametrize("name", shown.pages())
-def test_page(cadf, name):
-    path = os.path.join(TOP, name)
-    assert shown.idle_lines(path) == []
-    count, absent = shown.run_page(path, os.path.dirname(cadf))
+def does_what_it_shows(name, folder):
+    """Expects that the commands of a page do what it shows, by the `cadf` in that folder."""
+    count, absent = shown.run_page(os.path.join(TOP, name), folder)
     assert count > 0
     if absent:
         pytest.skip("%s isn't there, which blocks of %s run" % (" and ".join(sorted(absent)), name))
+
+
+@pytest.mark.parametrize("name", shown.pages())
+def test_page(cadf, name):
+    assert shown.idle_lines(os.path.join(TOP, name)) == []
+    does_what_it_shows(name, os.path.dirname(cadf))
+
+
+@pytest.mark.parametrize("name", shown.pages())
+def test_page_by_the_second_implementation(name):
+    """Whoever has no command yet follows the pages with it."""
+    does_what_it_shows(name, os.path.join(TOP, "tests", "reference"))
 
 
 @pytest.mark.parametrize("right, wrong", [("    a\n", "    b\n"), ("    ..\n", ""), ("    x\n\n", "    y\n\n"), ("$ true", "$ echo x")])

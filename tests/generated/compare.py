@@ -5,9 +5,10 @@
 The second implementation, tests/reference, is of what docs/FORMATS.md describes. It was written apart from crates/ and
 shares nothing with it, so that a misreading in the definitions there would show as a difference. Compared are the exit
 status, standard output and standard error of `join`, `split`, `missing`, `missing-by`, `inventory`, `sketch`,
-`missing-by-sketch`, `seal`, `prove`, `verify`, `rule`, `rehearse`, `show` and `check`. Not compared: the texts for words that are no call, which
-are clap's own, beyond that the status is 2 and that they go to standard error alone; words that aren't UTF-8 count as
-no call. Nor is anything reached that takes a large input, a failed write or want of memory.
+`missing-by-sketch`, `seal`, `prove`, `verify`, `sealed`, `growth`, `grew`, `omit`, `rule`, `rehearse`, `show` and `check`.
+Not compared: the texts for words that are no call, which are clap's own, beyond that the status is 2 and that they go to
+standard error alone; words that aren't UTF-8 count as no call. Nor is anything reached that takes a large input, a failed
+write or want of memory.
 
 BINARY is crates/cadf/out/cadf unless given. A case depends on its seed and number alone. The status is 1 where a case
 differs; the first ten that do are kept, made smaller, in folders of their own with the call to run there.

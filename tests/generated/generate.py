@@ -4,7 +4,10 @@ import pathlib
 import random
 
 from tests import TOP
-from tests.generated import odd_documents, odd_events, odd_files, odd_inventories, odd_nodes, odd_proofs, odd_sketches, schedules
+from tests.generated import (
+    odd_documents, odd_events, odd_files, odd_growths, odd_inventories, odd_nodes, odd_proofs, odd_sketches, schedules,
+)
+from tests.generated.odd_lies import Lie
 from tests.generated.odd_events import chain, event
 from tests.generated.odd_files import (
     atoms_of, documents_told, file_with, grounded_part, some_carrier, some_file, some_file_of, some_head, with_rulings,
@@ -53,7 +56,7 @@ def reading(chance, data):
     """A call that reads one input."""
     return chance.choice([
         ["show", "a"], ["show", "a"], ["show", "a"], ["show", "--conflicts", "a"], ["check", "a"], ["join", "a"],
-        ["join", "--log", "g", "a"], ["missing", "a", "a"], ["inventory", "a"], ["seal", "a"], ["missing-by", "a", "i"]]), \
+        ["join", "--log", "g", "a"], ["missing", "a", "a"], ["inventory", "a"], ["seal", "a"], ["sealed", "a"], ["missing-by", "a", "i"]]), \
         {"a": data, "i": NO_DIGESTS}
 
 
@@ -301,7 +304,7 @@ def unions(chance):
     if chance.random() < 0.05:
         several.insert(chance.randint(0, len(several)), chance.choice(["folder", "nothere"]))
     command = chance.choice([
-        ["show"], ["show", "--conflicts"], ["check"], ["inventory"], ["seal"], ["sketch", "--cells", "9"],
+        ["show"], ["show", "--conflicts"], ["check"], ["inventory"], ["seal"], ["sealed"], ["sketch", "--cells", "9"],
         ["rule", letter, key, chance.choice("1123")], ["missing"], ["missing"], ["missing-by"], ["missing-by-sketch"]])
     if not command[0].startswith("missing"):
         return command + several, files
@@ -477,6 +480,71 @@ def misleading_proofs(chance):
     return verified(chance, files, *odd_proofs.of_no_set(chance, read_input(files["facts"])[1]))
 
 
+def grown_sets(chance):
+    """Atoms, and those that came of them, with the files of both."""
+    earlier = with_rulings(chance, atoms_of(documents_told(chance, 1, 3)))
+    later = odd_growths.changed(chance, earlier)
+    return earlier, later, {"folder": DIRECTORY, "a": odd_growths.file_for(chance, later)}
+
+
+def behind_a_list(chance, command, made, files):
+    """A call of a command that reads a list and then files, most of them in their places."""
+    files["list"] = made
+    if chance.random() < 0.3:
+        files["b"] = as_input(chance, chance.choice(documents_told(chance)))
+    inputs = [name for name in ("a", "b") if name in files] + chance.choice([[]] * 20 + [["folder"], ["nothere"], ["a"], ["list"]])
+    chance.shuffle(inputs)
+    if chance.random() < 0.03:
+        files["a"] = damaged(chance, files["a"])
+    return [command, "list" if chance.random() < 0.96 else chance.choice(["folder", "nothere", "a"]), *inputs], files
+
+
+def growths(chance):
+    """Calls of `growth`, of which most are answered with a proof, and of `sealed`."""
+    earlier, later, files = grown_sets(chance)
+    if chance.random() < 0.15:
+        return ["sealed", *chance.choice([["a"]] * 20 + [["a", "a"], ["folder"], ["nothere"]])], files
+    made = odd_growths.sealed_list(chance, earlier)
+    if chance.random() < 0.15:
+        made = odd_growths.odd_list(chance, made)
+    return behind_a_list(chance, "growth", made, files)
+
+
+def omits(chance):
+    """Calls of `omit`, of which most leave something out."""
+    earlier, _, files = grown_sets(chance)
+    files["a"] = odd_growths.file_for(chance, earlier)
+    made = odd_growths.omitting_list(chance, earlier)
+    if chance.random() < 0.2:
+        made = odd_growths.odd_list(chance, made)
+    return behind_a_list(chance, "omit", made, files)
+
+
+def grew(chance):
+    """Calls of `grew`, on sets that grew or lost, with and without a list of what went; a file may be another one, or odd."""
+    earlier, later, files = grown_sets(chance)
+    files = {"folder": DIRECTORY, "old": seal_of("g", earlier), "new": seal_of("g", later), "proof": odd_growths.proof_between(chance, earlier, later),
+             "list": odd_growths.erased_list(chance, earlier, later)}
+    name = chance.choice(["old", "new", "proof", "proof", "list"])
+    kind = chance.random()
+    if kind < 0.3:
+        files[name] = odd_growths.odd_list(chance, files[name]) if name == "list" else odd_proofs.odd(chance, files[name])
+    elif kind < 0.4:
+        files[name] = files[chance.choice(["old", "new", "proof", "list"])]
+    operands = chance.choice([["old", "new", "proof"]] * 30 + [
+        ["new", "old", "proof"], ["new", "old", "proof"], ["old", "old", "proof"], ["new", "new", "proof"], ["proof", "old", "new"], ["old", "folder", "proof"],
+        ["nothere", "new", "folder"], ["old", "new", "nothere"]])
+    option = chance.choice([[], ["--erased", "list"], ["--erased", "list"], ["--erased=list"]] * 10 + [["--erased", "folder"], ["--erased=nothere"], ["--erased="], ["--erased"]])
+    place = chance.randint(0, 3)
+    return ["grew", *operands[:place], *option, *operands[place:]], files
+
+
+def lies(chance):
+    """Calls of `grew` with a proof that is wrong, under seals of which some were made for it."""
+    lie = Lie(chance.getrandbits(32), 0)
+    return lie.words, {name.decode(): content for name, content in lie.files.items()}
+
+
 def shows(chance):
     words = chance.choice([["show", "a"], ["show", "--conflicts", "a"], ["show", "--conflicts", "a"], ["show", "a", "--conflicts"],
                            ["check", "a"]])
@@ -539,7 +607,7 @@ def words(chance):
              "-x": some_file(chance), "g": some_file(chance, "h"), "folder": DIRECTORY,
              "e": spelled_oddly(chance, event(chance)), "i": NO_DIGESTS, "s": odd_sketches.some_sketch(chance)}
     command = chance.choice([
-        "join", "join", "missing", "missing-by", "inventory", "seal", "show", "check", "rule", "split", "prove", "verify", "Join", "", "joi",
+        "join", "join", "missing", "missing-by", "inventory", "seal", "show", "check", "rule", "split", "prove", "verify", "sealed", "growth", "grew", "omit", "Join", "", "joi",
         "missing-", "sketc", "--log"] + ["sketch"] * 6 + ["missing-by-sketch"] * 4)
     options = odd_sketches.option_words(chance) if command == "sketch" or chance.random() < 0.1 else []
     count = WORDS_WANTED.get(command.encode(), 1) if chance.random() < 0.5 else chance.randint(0, 4)
@@ -605,7 +673,7 @@ KINDS = {
     damaged_inventories: 18, rules: 12, read_by(odd_documents.doubled, telling): 16, read_by(odd_documents.numbered, telling): 8,
     read_by(odd_documents.escaped, telling): 10, read_by(odd_documents.deep, telling): 14, read_by(odd_documents.bare, telling): 12,
     read_by(odd_documents.odd_in_turn, telling): 12, unions: 14, rehearsals: 12, sketches: 14, damaged_sketches: 16, misleading_sketches: 12,
-    splits: 14, proves: 12, verifies: 14, damaged_proofs: 18, misleading_proofs: 12}
+    splits: 14, proves: 12, verifies: 14, damaged_proofs: 18, misleading_proofs: 12, growths: 14, omits: 14, grew: 20, lies: 14}
 
 
 class Case:

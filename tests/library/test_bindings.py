@@ -284,7 +284,9 @@ class InProcess:
         self.sketched = [chosen(found.given.get(option)) for option in (b"--cells", b"--salt")]
         if DIRECTORY in self.texts or self.command not in _library.FUNCTIONS:
             raise Usage  # a file that can't be read: the library reads none
-        many, two = ("join", "split", "prove", "verify"), self.command.startswith("missing")
+        if self.command == "grew" and not all(self.texts[3:]):
+            raise Usage  # a list of no bytes, which is none to the library
+        many, two = ("join", "split", "prove", "verify", "growth", "grew", "omit"), self.command.startswith("missing")
         if self.command not in many and len(self.names) != (2 if two else 1):
             raise Usage  # a union: the library joins by a call of its own
 
@@ -304,6 +306,10 @@ class InProcess:
             "seal": lambda: cadf.seal(first),
             "prove": lambda: cadf.prove(first, self.texts[1:]),
             "verify": lambda: cadf.verify(*self.texts, self.flag),
+            "sealed": lambda: cadf.sealed(first),
+            "growth": lambda: cadf.growth(first, self.texts[1:]),
+            "grew": lambda: cadf.grew(*self.texts),
+            "omit": lambda: cadf.omit(first, self.texts[1:]),
             "show": lambda: cadf.show(first, self.flag),
             "check": lambda: cadf._call("check", 16, cadf._given(first)),
             "rule": lambda: cadf.rule(self.ruling[0], self.ruling[1], number(self.ruling[2].encode()), first),

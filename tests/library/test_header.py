@@ -21,15 +21,15 @@ VALUES = {"bool": ("true", "true"), "uint8_t": ("'E'", "'E'"), "uint64_t": ("9",
 PRINTED = {"bool": ("%d", "{0}"), "uint8_t": ("%d", "{0}"), "uint64_t": ("%d", "(int){0}"), "size_t": ("%d", "(int){0}"), "uint8_t *": ("%d", "{0} != NULL"),
            "const struct cadf_bytes *": ("%d", "{0}->bytes ? (int){0}->length : -1")}
 INPUT = "const struct cadf_bytes *"
-PROGRAM = '#include "cadf.h"\nint main(void) {\n    struct cadf_bytes three[3] = {cadf_bytes_of("a", 1), cadf_bytes_of("bc", 2), cadf_bytes_of("def", 3)};\n    uint8_t buffer[5]; size_t length;\n%s    return 0;\n}\n'
+PROGRAM = '#include "cadf.h"\nint main(void) {\n    struct cadf_bytes four[4] = {cadf_bytes_of("a", 1), cadf_bytes_of("bc", 2), cadf_bytes_of("def", 3), cadf_bytes_of("ghij", 4)};\n    uint8_t buffer[5]; size_t length;\n%s    return 0;\n}\n'
 
 
 def call(name, kinds, is_given):
-    """A call of the function whose inputs have 1, 2 and 3 bytes, or are NULL, and what the noting library has to print of it."""
+    """A call of the function whose inputs have 1, 2, 3 and 4 bytes, or are NULL, and what the noting library has to print of it."""
     words, told, inputs = [], [], 0
     for at, kind in enumerate(kinds):
         if kind == INPUT:
-            words.append("three + %d" % inputs if is_given else "NULL")
+            words.append("four + %d" % inputs if is_given else "NULL")
             told.append(str(inputs + 1 if is_given else 0))
             inputs += 1
         elif kind == "size_t":  # the number of the inputs before it, or the room of the output before it

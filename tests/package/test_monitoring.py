@@ -32,6 +32,8 @@ CASES = {
     "CadfOpenConflicts": {"open_conflicts": "3x%d" % HOURS},
     "CadfUnseenRuling": {"unseen_rulings": "1x%d" % HOURS},
     "CadfWaiting": {"set_aside_oldest_timestamp_seconds": STAYS},
+    "CadfPeerForgot": {"windows_not_kept_by_peer": "1x%d" % HOURS},
+    "CadfForgetLate": {'last_success_timestamp_seconds{tool="cadf-forget"}': STAYS},
     "CadfLargeWindow": {"largest_window_bytes": "600000000x%d" % HOURS},
 }
 

@@ -364,9 +364,11 @@ def test_static_materials(made_static, first):
     check_materials(read(bill), static, first.folder, ["GCC start-up code and support library", "GNU C Library"], [])
 
 
-def test_static(static):
+def test_static(static, tmp_path):
+    """It needs no library, and runs where `install` puts it."""
     assert list(needs.libraries(read(static))) == []
-    tells_version(static, static, "--version")
+    assert said("install", static, tmp_path / "cadf")[0] == 0
+    tells_version(static, tmp_path / "cadf", "--version")
 
 
 @pytest.mark.needs("bwrap")

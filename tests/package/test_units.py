@@ -23,9 +23,9 @@ INSTANCE = "audit"
 OLDEST = 250  # the first systemd-analyze that judges files in a folder
 SERVICE, TIMER = "cadf-spool@.service", "cadf-spool@.timer"
 FOLDERS = "cadf-spool-folders@.service"
-SYNC, SETTLE, SCRUB = "cadf-sync@.service", "cadf-settle@.service", "cadf-scrub@.service"
-TIMERS = (TIMER, "cadf-sync@.timer", "cadf-settle@.timer", "cadf-scrub@.timer")
-MOST_EXPOSED = {SERVICE: 0.5, SETTLE: 0.5, SCRUB: 0.5, SYNC: 1.2, "cadf-listen@.service": 2.5, FOLDERS: 1.2}  # of 10, for each service
+SYNC, SETTLE, SCRUB, FORGET = "cadf-sync@.service", "cadf-settle@.service", "cadf-scrub@.service", "cadf-forget@.service"
+TIMERS = (TIMER, "cadf-sync@.timer", "cadf-settle@.timer", "cadf-scrub@.timer", "cadf-forget@.timer")
+MOST_EXPOSED = {SERVICE: 0.5, SETTLE: 0.5, SCRUB: 0.5, FORGET: 0.5, SYNC: 1.2, "cadf-listen@.service": 2.5, FOLDERS: 1.2}  # of 10, for each service
 # What docs/OPERATING.md says of them: no capability, network or device; two folders to write to; each five minutes. A run
 # of an input of 2^30 bytes takes four times as much memory.
 SAID = [
@@ -43,6 +43,9 @@ SAID = [
     (SCRUB, "Service", "CapabilityBoundingSet", ""), (SCRUB, "Service", "PrivateNetwork", "yes"),
     (SCRUB, "Service", "ProtectSystem", "strict"), (SCRUB, "Service", "StateDirectory", "cadf/%i"),
     ("cadf-scrub@.timer", "Timer", "OnCalendar", "*-*-* 04:00"),
+    (FORGET, "Service", "CapabilityBoundingSet", ""), (FORGET, "Service", "PrivateNetwork", "yes"),
+    (FORGET, "Service", "ProtectSystem", "strict"), (FORGET, "Service", "StateDirectory", "cadf/%i"),
+    (FORGET, "Service", "EnvironmentFile", "/etc/cadf/%i.keep"), ("cadf-forget@.timer", "Timer", "OnCalendar", "*-*-* 02:00"),
 ]
 
 
@@ -153,6 +156,7 @@ def test_words(cadf, tmp_path):
     runs_line(SETTLE, places, cadf)
     runs_line(SCRUB, places, cadf)
     assert b"\nS " in (site / ".state").read_bytes()
+    runs_line(FORGET, {**places, "${KEEP}": "36500d", "$OPTIONS": "--json"}, cadf)
     named = [line.split()[1] for line in (site / "site").read_text().splitlines() if line.startswith("F ")]
     assert len(named) > 1 and sorted(named) == sorted(set(named))
     agreed = ended(os.path.join(TOP, "tools", "cadf-agree"), [str(site), os.path.join(VECTORS, "both.cadf")], env={**os.environ, "CADF": cadf})

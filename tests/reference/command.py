@@ -2,7 +2,9 @@
 from tests.reference import json_text
 from tests.reference.atoms import with_carriers
 from tests.reference.events import Fault, document, is_name
+from tests.reference.growth_files import growth_of, grown
 from tests.reference.inventory_files import inventory_of, missing_by, read_inventory
+from tests.reference.list_files import left_by, read_erased_list, read_sealed_list, sealed_list_of
 from tests.reference.rehearsal import read_script, rehearsal_text, sites_of
 from tests.reference.replica_files import file_of, read_file
 from tests.reference.rulings import check_key, place_of, ruled
@@ -14,10 +16,12 @@ from tests.reference.split_files import UNITS, split_of
 DIRECTORY = object()  # stands for the content of a folder
 # How many words each command wants beside its options, and those that take further files behind them.
 WORDS_WANTED = {b"join": 1, b"split": 1, b"missing": 2, b"missing-by": 2, b"inventory": 1, b"show": 1, b"check": 1,
-                b"rehearse": 3, b"rule": 4, b"sketch": 1, b"missing-by-sketch": 2, b"seal": 1, b"prove": 2, b"verify": 3}
-SEVERAL = (b"join", b"split", b"inventory", b"show", b"check", b"rule", b"sketch", b"seal", b"prove")
+                b"rehearse": 3, b"rule": 4, b"sketch": 1, b"missing-by-sketch": 2, b"seal": 1, b"prove": 2, b"verify": 3,
+                b"sealed": 1, b"growth": 2, b"grew": 3, b"omit": 2}
+SEVERAL = (b"join", b"split", b"inventory", b"show", b"check", b"rule", b"sketch", b"seal", b"prove", b"sealed", b"growth", b"omit")
 FLAGS = {b"show": b"--conflicts", b"verify": b"--absent"}
-OPTIONS = {b"join": [b"--log"], b"split": [b"--by", b"--log"], b"sketch": [b"--cells", b"--salt"]}  # those with a value
+OPTIONS = {b"join": [b"--log"], b"split": [b"--by", b"--log"], b"sketch": [b"--cells", b"--salt"],
+           b"grew": [b"--erased"]}  # those with a value
 # Options with a file, which may be given again and again: a further file of the sender's or of the receiver's.
 AGAIN = {b"missing": [b"--from", b"--to"], b"missing-by": [b"--from"], b"missing-by-sketch": [b"--from"]}
 
@@ -60,6 +64,8 @@ class Call:
         if self.command == b"rule":
             self.ruling = [word.decode() for word in self.files[:3]]
             del self.files[:3]
+        if b"--erased" in self.given:
+            self.files.append(self.given[b"--erased"])
         if self.again:  # FROM and each further one, then TO and each further one
             sender, receiver = self.files
             self.senders = 1 + len(self.again[b"--from"])
@@ -92,8 +98,12 @@ def read_input(data):
     """The log and the atoms of an input."""
     return read_file(data) if data.startswith(b"CADF-") else document(json_text.read(data))
 
-# What the last input of a command is read as, where it isn't read as any input.
-OF_A_KIND = {b"missing-by": read_inventory, b"missing-by-sketch": read_sketch, b"verify": read_proof}
+# How the first inputs of a command are read, and how its last ones, where they aren't read as any input.
+FIRST_READ = {b"verify": [read_seal], b"growth": [read_sealed_list], b"omit": [read_erased_list]}
+LAST_READ = {b"missing-by": [read_inventory], b"missing-by-sketch": [read_sketch], b"verify": [read_proof]}
+ALL_READ = {b"grew": [read_seal, read_seal, read_proof, read_erased_list]}
+# What is made of one input and the files behind it.
+BEFORE_FILES = {b"prove": proof_of, b"growth": growth_of, b"omit": lambda log, erased, atoms: file_of(log, left_by(erased, atoms))}
 
 
 def loaded(number, data, read):
@@ -120,11 +130,9 @@ def opened(call, files):
 
 def inputs_of(call, files):
     """The log and the contents of each input."""
-    reads = [read_input] * len(call.files)
-    reads[-1] = OF_A_KIND.get(call.command, read_input)
-    if call.command == b"verify":
-        reads[0] = read_seal
     contents = opened(call, files)
+    first, last = FIRST_READ.get(call.command, []), LAST_READ.get(call.command, [])
+    reads = ALL_READ.get(call.command) or [*first, *[read_input] * (len(contents) - len(first) - len(last)), *last]
     return [loaded(number, data, read) for number, (data, read) in enumerate(zip(contents, reads), 1)]
 
 
@@ -134,9 +142,9 @@ def sides(call, items):
 
 
 def log_written(call, logs):
-    """The log under which is written; every input that names a log must name that one. FACTS of a proof come last, and name none."""
+    """The log under which is written; every input that names a log must name that one. What stands before the files comes last, and names none."""
     numbered = list(enumerate(logs, 1))
-    if call.command == b"prove":
+    if call.command in BEFORE_FILES:
         logs, numbered = logs[1:], [*numbered[1:], numbered[0]]
     first = [next((log for log in side if log is not None), None) for side in sides(call, logs)]
     named = call.log.decode() if call.log is not None else first[0]
@@ -170,9 +178,11 @@ def written(call, files):
     sets = [contents for _, contents in inputs]
     if call.command == b"verify":
         return verified(*sets, "absent" if call.flag else "present")
-    if call.command == b"prove":
-        return proof_of(log, sets[0], set().union(*sets[1:]))
-    if call.command in OF_A_KIND:
+    if call.command == b"grew":
+        return grown(*sets, *[None] * (4 - len(sets)))
+    if call.command in BEFORE_FILES:
+        return BEFORE_FILES[call.command](log, sets[0], set().union(*sets[1:]))
+    if call.command in LAST_READ:
         sets = [set().union(*sets[:-1]), sets[-1]]
     else:
         sets = [set().union(*side) for side in sides(call, sets)]
@@ -194,6 +204,8 @@ def written(call, files):
         return inventory_of(log, *sets)
     if call.command == b"seal":
         return seal_of(log, *sets)
+    if call.command == b"sealed":
+        return sealed_list_of(log, *sets)
     if call.command == b"check":
         return check_line(log, *sets)
     return conflict_text(log, *sets) if call.flag else log_text(log, *sets)

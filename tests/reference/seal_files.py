@@ -57,11 +57,11 @@ def root_of(digests):
 
 
 def parts_of(digests, shown):
-    """The parts, in preorder, of the tree of digests that rise, of which some are shown."""
-    if not shown & set(digests):
+    """The parts, in preorder, of the tree of digests that rise. `shown` has those that are shown, each with its letter."""
+    if not any(digest in shown for digest in digests):
         return [("H", hash_of(digests))] if digests else []
     if len(digests) == 1:
-        return [("P", digests[0])]
+        return [(shown[digests[0]], digests[0])]
     zeros, ones = halves(digests)
     return [("N", None), *parts_of(zeros, shown), *parts_of(ones, shown)]
 
@@ -99,14 +99,24 @@ def raw(digits):
     return bytes.fromhex(digits.decode())
 
 
+def leaf_of(atom):
+    """The digest of an atom, or of a key."""
+    return raw(digest_of(atom))
+
+
+def key_leaf(atom):
+    """The digest of an atom's key."""
+    return leaf_of(atom[1:3] if atom[0] == RULING else atom[:2])
+
+
 def leaves_of(atoms):
     """The digests of atoms, rising."""
-    return sorted(raw(digest_of(atom)) for atom in atoms)
+    return sorted(map(leaf_of, atoms))
 
 
 def keys_of(atoms):
     """The digests of the keys of atoms, rising."""
-    return sorted({raw(digest_of(atom[1:3] if atom[0] == RULING else atom[:2])) for atom in atoms})
+    return sorted(set(map(key_leaf, atoms)))
 
 
 def sealed_in(atoms):
@@ -150,29 +160,31 @@ class SealLines(Lines):
         self.found.append(read(line))
 
     @property
-    def count(self):
-        return self.found[0]
+    def facts(self):
+        """The number of facts, and their root."""
+        return tuple(self.found[:2])
 
     @property
-    def root(self):
-        return self.found[1]
+    def keys(self):
+        """The number of keys, and their root."""
+        return tuple(self.found[2:])
 
 
 class ProofLines(Lines):
-    """The parts before a line `K`, each with its letter and its digest, and whether there is that line."""
+    """The parts before a line `K`, each with its letter and its digest, and those after it, or None without that line."""
 
     def __init__(self):
-        self.parts, self.has_keys = [], False
+        self.parts, self.keys = [], None
 
     def take(self, line):
-        if line == b"K" and not self.has_keys:
-            self.has_keys = True
+        if line == b"K" and self.keys is None:
+            self.keys = []
             return
         found = PART.fullmatch(line)
         if not found:
             raise Fault("shape")
-        if not self.has_keys:
-            self.parts.append((line[:1].decode(), raw(found[1]) if found[1] else None))
+        own = self.parts if self.keys is None else self.keys
+        own.append((line[:1].decode(), raw(found[1]) if found[1] else None))
 
 
 def read_seal(data):
@@ -210,23 +222,23 @@ def proof_with(log, parts):
 def proof_of(log, facts, atoms):
     """The proof of which of the facts are in the set of the atoms."""
     leaves = leaves_of(atoms)
-    return proof_with(log, parts_of(leaves, set().union(*(shown_for(leaf, leaves) for leaf in leaves_of(facts)))))
+    shown = set().union(*(shown_for(leaf, leaves) for leaf in leaves_of(facts)))
+    return proof_with(log, parts_of(leaves, dict.fromkeys(shown, "P")))
 
 
 # ---- What a proof says
 
-def can_be_of(parts, count):
-    """Whether the parts can be of so many leaves, both without those that came and without those that went."""
+def can_be_of(parts, earlier, later):
+    """Whether the parts can be of so many leaves without those that came, and of so many without those that went."""
     letters = [letter for letter, _ in parts]
-    left = {count - letters.count("P") - letters.count(other) for other in "GA"}
+    left = {count - letters.count("P") - letters.count(other) for other, count in (("G", earlier), ("A", later))}
     least = letters.count("H")
     return len(left) == 1 and (min(left) >= least if least else min(left) == 0)
 
 
-def check_roots(tree, seal):
-    for letter in "AG":
-        if rooted(seal.count, tree and hash_without(letter, tree) or hashed(b"")) != seal.root:
-            raise Fault("other root")
+def root_without(letter, tree, count):
+    """The root of so many leaves by a tree, or by None, without its leaves of that letter."""
+    return rooted(count, tree and hash_without(letter, tree) or hashed(b""))
 
 
 class Shown:
@@ -266,15 +278,18 @@ class Shown:
 
 def states_of(facts, seal, proof):
     """Of each fact whether it is `present` or `absent`, by what a proof shows under a seal; refusals are those of a proof."""
-    if not can_be_of(proof.parts, seal.count):
+    count, root = seal.facts
+    if not can_be_of(proof.parts, count, count):
         raise Fault("other count")
-    check_roots(tree_of(proof.parts), seal)
+    tree = tree_of(proof.parts)
+    if any(root_without(letter, tree, count) != root for letter in "AG"):
+        raise Fault("other root")
     shown = Shown(proof.parts)
     shown.check()
-    leaves = [raw(digest_of(fact)) for fact in facts]
+    leaves = list(map(leaf_of, facts))
     needed = set().union(*(shown.needed(leaf) for leaf in leaves))
     letters = "".join(letter for letter, _ in proof.parts)
-    if "NHH" in letters or len(needed) < sum(map(letters.count, "PAG")) or proof.has_keys:
+    if "NHH" in letters or len(needed) < sum(map(letters.count, "PAG")) or proof.keys is not None:
         raise Fault("not needed")
     return [shown.state(leaf) for leaf in leaves]
 

@@ -227,6 +227,17 @@ def scrubs(trial):
     trial.say("the site is scrubbed", status == 0 and "\nS " in text_of(SITE, ".state"), said + journal("cadf-scrub@audit"))
 
 
+def forgets(trial):
+    """The timer's unit finds nothing that is so old, and leaves the site as it is."""
+    before = atoms()
+    settings = Path("/etc/cadf")
+    settings.mkdir(exist_ok=True)
+    (settings / "audit.keep").write_text("KEEP=36500d\nOPTIONS=--json\n")
+    runs_lines(trial, "OPERATING.md", "systemctl enable --now cadf-forget@audit.timer")
+    status, said = run("systemctl", "start", "cadf-forget@audit.service")
+    trial.say("the site forgets what is old", status == 0 and atoms() == before, said + journal("cadf-forget@audit"))
+
+
 def exchanges(trial):
     """The unit of the exchange, with a peer that is a site of this machine, so that it needs no sshd."""
     peer = "/var/lib/cadf/audit/peer.cadf"
@@ -296,6 +307,7 @@ def inside(kills):
         listens(trial)
         settles(trial)
         scrubs(trial)
+        forgets(trial)
         exchanges(trial)
         upgrades(trial)
         goes(trial)

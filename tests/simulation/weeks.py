@@ -8,9 +8,10 @@ others, and rulings are made; some lines and files are refused. Spools are taken
 from a backup that is days old. At a call by chance the processes of a machine are killed, its power is cut (tests/simulation/disk.py
 says what that leaves), or its disk is full; links end early, or pass on another bit.
 
-After each act the site is whole, holds nothing that was not sent, and has lost nothing. At the end of a week, once all has been taken
-and every link was up, the sites are settled: they have the same files byte for byte, which are those of the facts that arrived by the
-second implementation. Each line that was refused is set aside, and nothing else waits.
+After each act the site is whole, holds nothing that was not sent or is below its floor, and has lost nothing but what is below its floor,
+which is in its archive. At the end of a week, once all has been taken, every link was up, and each site has forgotten what one of them has,
+the sites are settled: they have the same files byte for byte, which are those of the facts that arrived and are not below the floor, by the
+second implementation. Each line that was refused is set aside, and nothing else waits but what is below the floor.
 
 The weeks have seeds that follow one another; --today adds a week whose seed is the number of the day. With one week its story is told,
 a line each act. Tools and the second implementation are forks of this process; with --tools the tools are those of that folder.
@@ -22,14 +23,17 @@ import itertools
 import json
 import os
 import random
+import re
 import shutil
 import sys
 import tempfile
 import time
+from pathlib import Path
 
 from tests import TOP
 from tests.reference.events import Fault, document
 from tests.reference.replica_files import file_of, read_file
+from tests.reference.seal_files import sealed_in
 from tests.reference.split_files import parts_of
 from tests.simulation.disk import PowerCut, tree
 from tests.simulation.processes import ANSWERS, CUT, FULL, KILLED, Plan, Processes
@@ -39,7 +43,7 @@ DAYS, ACTS = 7, 6  # of a week, and of a day
 ALWAYS = (0, 5)  # statuses of what was done
 FAULTS = {None: 4, "killed": 1, "power cut": 2, "full disk": 1}  # how likely each is
 WAYS = {"killed": KILLED, "power cut": CUT, "full disk": FULL}
-CALLS = {"takes its spool": 140, "listens": 40, "settles": 40, "take": 20, "exchanges": 60}  # that acts of a kind have, as a rule, and a fifth as many syncs
+CALLS = {"takes its spool": 140, "listens": 40, "settles": 40, "forgets": 60, "take": 20, "exchanges": 60}  # that acts of a kind have, as a rule, and a fifth as many syncs
 LAST_DAY = "2024-03-20"  # which spools take; later events wait
 
 
@@ -58,11 +62,30 @@ def put(path, data):
     os.rename(path + ".part", path)
 
 
+def floor_of(files):
+    """The floor of a site by its files, or an empty text, and the lines of what went, by the window. What doesn't name its gone file, or has another digest, is damaged."""
+    lines = files["site"].split(b"\n") if "site" in files else []
+    if lines[:1] != [b"CADF-SITE 2"]:
+        return "", {}
+    digits = re.fullmatch("G ([0-9a-f]{64})", lines[3].decode())[1]
+    data = files["gone." + digits]
+    if data[-67:] != b"Z %s\n" % digits.encode() or hashlib.sha256(data[:-67]).hexdigest() != digits or data.split(b"\n")[:3] != [b"CADF-GONE 1", *lines[1:3]]:
+        raise ValueError("gone")
+    found = [line.split(" ", 2) for line in data.decode().split("\n")[3:-2]]
+    return max(window for letter, window, _ in found if letter == "T"), {window: rest for letter, window, rest in found if letter == "G"}
+
+
+def is_kept(atom, floor):
+    """Whether an atom is of no window below the floor."""
+    return all(part == "shared" or part >= floor for part in parts_of({atom}, UNIT))
+
+
 class Machine:
     """A site, its spool, what waits for it on the bus, and what it has sent: all that a person has beside a site that is put back."""
 
     def __init__(self, root, number):
         self.root, self.number, self.queue, self.sent, self.odd, self.backups, self.held = root, number, [], [], set(), [], set()
+        self.floor = ""  # of the site, by its files
         for name in ("spool", "tmp", "sent"):
             os.makedirs(self.path(name), 0o700)
 
@@ -79,11 +102,11 @@ class Machine:
         folder = self.path("spool", "set-aside")
         return {name: self.bytes("spool", "set-aside", name) for name in os.listdir(folder) if not name.startswith(".")} if os.path.isdir(folder) else {}
 
-    def site(self):
-        """The files of the site, by name."""
-        folder = self.path("site")
-        names = [name for name in os.listdir(folder) if not name.startswith(".")] if os.path.isdir(folder) else ()
-        return {name: self.bytes("site", name) for name in names}
+    def site(self, name="site"):
+        """The files of the site, or of its archive, by name."""
+        folder = self.path(name)
+        names = [each for each in os.listdir(folder) if not each.startswith(".")] if os.path.isdir(folder) else ()
+        return {each: self.bytes(name, each) for each in names}
 
     def bytes(self, *names):
         with open(self.path(*names), "rb") as file:
@@ -99,6 +122,7 @@ class Week:
         forks.machines[:] = [machine.root for machine in self.machines]
         self.must, self.may = set(), set()  # what each site holds at the end, and what it may hold: a ruling whose take was killed
         self.events, self.files, self.known, self.said, self.faults, self.acts = [], 0, {}, "", 0, 0
+        self.floor = ""  # the highest of a site so far
 
     # What arrives
 
@@ -184,7 +208,8 @@ class Week:
                 or done.status not in good and not (may_fail or hit):
             raise Wrong("m%d %s ended with %s\n%s" % (machine.number, " ".join(map(str, work)) if not callable(work) else kind, done.status, done.said))
         for each in (machine, *others):
-            each.held = self.check(each, each.site())
+            each.held, each.floor = self.check(each, each.site(), each.site("archive")), floor_of(each.site())[0]
+            self.floor = max(self.floor, each.floor)
         return done
 
     def is_of(self, machine, record):
@@ -197,9 +222,12 @@ class Week:
         held, lines = set(), files["site"].splitlines() if "site" in files else []
         if lines and b"".join(line + b"\n" for line in lines[:-1]) + b"Z %s\n" % hashlib.sha256(files["site"][:-67]).hexdigest().encode() != files["site"]:
             raise ValueError("site")
-        for line in lines[3:-1]:
+        floor, _ = floor_of(files)
+        for line in lines[4 if floor else 3:-1]:
             part, digest = line[2:].decode().split(" ")
             data = files["%s.%s.cadf" % (part, digest)]
+            if part != "shared" and part < floor:
+                raise ValueError("it has " + part)
             if data not in self.known:
                 log, atoms = read_file(data)
                 if log != LOG or set(parts_of(atoms, UNIT)) != {part} or data[-65:-1].decode() != digest:
@@ -208,13 +236,20 @@ class Week:
             held |= self.known[data]
         return held
 
-    def check(self, machine, files, when=""):
-        """Returns what the files of a site hold. Raises that it isn't whole, has lost something, or holds what nobody sent."""
+    def check(self, machine, files, archive, when=""):
+        """Returns what the files of a site hold. Raises that it isn't whole, has lost something, or holds what nobody sent.
+
+        What it holds no more is below its floor, and in its archive.
+        """
         try:
-            held = self.atoms(files)
+            held, (floor, _) = self.atoms(files), floor_of(files)
+            gone = {atom for atom in machine.held - held if not is_kept(atom, floor)}
+            gone -= self.atoms(archive) if gone else set()
         except (KeyError, ValueError, Fault) as fault:
             raise Wrong("m%d%s: its site is damaged: %r\n%s" % (machine.number, when, fault, self.said)) from fault
-        for what, atoms in (("lost", machine.held - held), ("holds, and nobody sent", held - self.may)):
+        if floor < machine.floor:
+            raise Wrong("m%d%s: its floor fell from %s to %s\n%s" % (machine.number, when, machine.floor, floor, self.said))
+        for what, atoms in (("lost", {atom for atom in machine.held - held if is_kept(atom, floor)}), ("forgot, and has in no archive", gone), ("holds, and nobody sent", held - self.may)):
             if atoms:
                 raise Wrong("m%d%s %s %d facts, as %s\n%s" % (machine.number, when, what, len(atoms), min(atoms), self.said))
         return held
@@ -223,14 +258,25 @@ class Week:
         """Raises what is wrong with the site that a power cut would leave at a sync of a run."""
         for number, record in enumerate(records):
             if record[0] in ("names", "content"):
-                self.check(machine, cut.holding(machine.path("site")), ", if the power is cut at call %d of %d," % (number + 1, len(records)))
+                self.check(machine, cut.holding(machine.path("site")), cut.holding(machine.path("archive")), ", if the power is cut at call %d of %d," % (number + 1, len(records)))
             cut.hear(*record)
 
     def take_sent(self, machine, name, is_calm=False):
         """A person takes a file, again and again until that is done."""
-        words = ["cadf-take", "--by", UNIT, "--log", LOG, "site", os.path.join("sent", name)]
-        while self.act("takes %s" % name if is_calm else "take", machine, words, is_calm=is_calm).status:
+        words, rest = ["cadf-take", "--by", UNIT, "--log", LOG, "--windows", "all", "--rest", "tmp/rest", "site", os.path.join("sent", name)], machine.path("tmp", "rest")
+        while self.act("takes %s" % name if is_calm else "take", machine, words, is_calm=is_calm).status not in ALWAYS:
             is_calm = True
+            if os.path.exists(rest):
+                os.unlink(rest)
+        if os.path.exists(rest):
+            self.check_left(machine, rest)
+            os.unlink(rest)
+
+    def check_left(self, machine, path):
+        """Raises that something of a file that was not taken is to be kept."""
+        kept = {atom for atom in read_file(Path(path).read_bytes())[1] if is_kept(atom, machine.floor)}
+        if kept:
+            raise Wrong("m%d: %s was not taken, and keeps from %s\n%s" % (machine.number, min(kept), machine.floor, self.said))
 
     def listen(self, machine, is_calm=False):
         """A listener takes what waits on the bus in batches, acknowledging each, and ends, or is killed: then the rest comes again."""
@@ -273,8 +319,25 @@ class Week:
         words = ["cadf-sync", *way, *patience, "--rsh", link, "--windows", "all", machine.path("site") + "/", "host:" + other.path("site") + "/"]
         done = self.act("exchanges with m%d%s" % (other.number, link[len("wire"):]), machine, words, [other], link != "wire" or not any(is_there) or bool(way),
                         is_calm=is_calm)
-        if done.status in ALWAYS and done.hit is None and link == "wire" and not way and machine.held != other.held:
-            raise Wrong("m%d and m%d exchanged, and differ: %d and %d facts\n%s" % (machine.number, other.number, len(machine.held), len(other.held), done.said))
+        floor = max(machine.floor, other.floor)
+        both = [{atom for atom in each.held if is_kept(atom, floor)} for each in (machine, other)]
+        if done.status in ALWAYS and done.hit is None and link == "wire" and not way and both[0] != both[1]:
+            raise Wrong("m%d and m%d exchanged, and differ: %d and %d facts\n%s" % (machine.number, other.number, *map(len, both), done.said))
+        if is_calm and machine.floor < other.floor and machine.held != both[0] and ("cadf-forget --before %s " % other.floor not in done.said or done.status != 5):
+            raise Wrong("m%d isn't told that m%d keeps from %s\n%s" % (machine.number, other.number, other.floor, done.said))
+
+    def forget(self, machine, floor=None, is_calm=False):
+        """A site forgets what is below a floor. What went has a trace of what it was, by the second implementation."""
+        if not os.path.exists(machine.path("site", "site")):
+            return
+        before, traces = machine.held, floor_of(machine.site())[1]
+        floor = floor or "2024-03-%02d" % (10 + self.chance.randrange(6))
+        done = self.act("forgets", machine, ["cadf-forget", "--before", floor, "--open", "--archive", "archive", "site"], is_calm=is_calm)
+        for window, trace in floor_of(machine.site())[1].items():
+            if window not in traces:
+                count, root, keys, key_root = sealed_in(parts_of(before, UNIT)[window])
+                if trace != "%d %s %d %s" % (count, root.hex(), keys, key_root.hex()):
+                    raise Wrong("m%d has another trace of %s: %s\n%s" % (machine.number, window, trace, done.said))
 
     def rule(self, machine):
         """A person rules on some of the open keys of a site, by the list."""
@@ -314,8 +377,10 @@ class Week:
         if not machine.backups:
             return
         folder, machine.held = self.chance.choice(machine.backups)
+        machine.floor = ""
         shutil.rmtree(machine.path("site"))
         shutil.copytree(folder, machine.path("site"))
+        machine.floor = floor_of(machine.site())[0]
         self.story("m%d is put back from %s, %d facts" % (machine.number, os.path.basename(folder), len(machine.held)))
         taken = machine.path("spool", "taken")
         for number, name in enumerate(sorted(os.listdir(taken)) if os.path.isdir(taken) else ()):
@@ -332,7 +397,7 @@ class Week:
                 self.arrive(day)
                 self.step()
             machine = self.chance.choice(self.machines)
-            self.chance.choice([self.settle, self.settle, self.rule, self.back_up, self.back_up, self.put_back])(machine)
+            self.chance.choice([self.settle, self.settle, self.rule, self.back_up, self.back_up, self.put_back, self.forget])(machine)
         self.end()
 
     def step(self):
@@ -354,6 +419,14 @@ class Week:
             self.spool(machine, True)
             if any(name.startswith("waits-") for name in machine.aside()):
                 self.act("admits what waits", machine, ["cadf-admit", "--take", "site", "spool", "waits-*"], is_calm=True)
+                left = [name for name in machine.aside() if name.startswith("waits-") and name.endswith(".cadf")]
+                for name in left:
+                    self.check_left(machine, machine.path("spool", "set-aside", name))
+                if left:
+                    self.act("drops what is below its floor", machine, ["cadf-admit", "--drop", "spool", "waits-*"], is_calm=True)
+        for machine in self.machines:
+            if machine.floor < self.floor:
+                self.forget(machine, self.floor, True)
         first, *others = self.machines
         for each in (*others, *others[:-1]):  # what the last one holds is then what all of them do
             self.exchange(first, each, True)
@@ -363,18 +436,19 @@ class Week:
         self.check_end()
 
     def check_end(self):
-        if not self.must <= self.machines[0].held <= self.may:
-            lost = self.must - self.machines[0].held
+        lost = {atom for atom in self.must - self.machines[0].held if is_kept(atom, self.floor)}
+        if lost:
             raise Wrong("%d facts that arrived are nowhere, as %s" % (len(lost), min(lost)))
         parts = parts_of(self.machines[0].held, UNIT)
         wanted = {part: file_of(LOG, atoms) for part, atoms in parts.items()}
         names = {"%s.%s.cadf" % (part, data[-65:-1].decode()): data for part, data in wanted.items()}
-        head = b"CADF-SITE 1\nL %s\nB %s\n" % (json.dumps(LOG).encode(), UNIT.encode())
-        lines = head + b"".join(b"F %s %s\n" % (part.encode(), wanted[part][-65:-1]) for part in sorted(parts, key=lambda part: (part != "shared", part)))
-        names["site"] = lines + b"Z %s\n" % hashlib.sha256(lines).hexdigest().encode()
+        files = b"".join(b"F %s %s\n" % (part.encode(), wanted[part][-65:-1]) for part in sorted(parts, key=lambda part: (part != "shared", part)))
         for machine in self.machines:
             found = machine.site()
-            if found != names:
+            gone = {name: data for name, data in found.items() if name.startswith("gone.")}  # which has the times of acts
+            said = b"".join(b"G %s\n" % name[len("gone."):].encode() for name in gone)
+            lines = b"CADF-SITE %d\nL %s\nB %s\n%s%s" % (2 if gone else 1, json.dumps(LOG).encode(), UNIT.encode(), said, files)
+            if found != {**names, **gone, "site": lines + b"Z %s\n" % hashlib.sha256(lines).hexdigest().encode()} or len(gone) > 1 or floor_of(found)[0] != self.floor:
                 raise Wrong("m%d has other files than its facts make: %s" % (machine.number, sorted(found.keys() ^ names.keys())))
             aside = machine.aside()
             text = b"".join(aside.values())

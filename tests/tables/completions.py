@@ -28,6 +28,8 @@ FOUND = COMMAND.findall(TABLE)
 COMMANDS = {name: about for name, about, _ in FOUND}
 WORDS = {name: [SHARED[shared] if shared else Word(*word) for *word, shared in re.findall(WORD + r"|\b([A-Z_]+)\b", words)]
          for name, _, words in FOUND}
+# An option's value is a file if an operand of that name is one.
+FILES = {word.name for words in WORDS.values() for word in words if word.kind == "File"}
 UNITS = " ".join(re.findall(r'"(\w+)"', REST.split("];\n")[0]))
 
 BASH = """\
@@ -89,7 +91,7 @@ def operands(name):
 def bash_rows(name):
     """The cases of a command: what follows its options, its options, and its operands that are no files."""
     for word in options(name):
-        if word.kind in ("Option", "Unit"):
+        if word.kind in ("Option", "Unit") and word.value not in FILES:
             yield "*:%s:--%s:*" % (name, word.name), word.choices()
     yield "*:%s:*:-*" % name, " ".join(sorted(["--help", *("--" + word.name for word in options(name))]))
     for place, word in enumerate(operands(name), 2):
@@ -110,7 +112,7 @@ def zsh_words(name):
     """What `_arguments` is told of the words of a command."""
     for word in options(name):
         yield {"Flag": "--{0.name}[{0.help}]", "More": "*--{0.name}=[{0.help}]:FILE:_files", "Unit": "--{0.name}=[{0.help}]:UNIT:({1})",
-               "Option": "--{0.name}=[{0.help}]:{0.value}:({1})"}[word.kind].format(word, word.choices())
+               "Option": "--{0.name}=[{0.help}]:{0.value}:" + ("_files" if word.value in FILES else "({1})")}[word.kind].format(word, word.choices())
     for place, word in enumerate(operands(name), 1):
         yield "%s:%s:%s" % ("*" if word.kind == "Files" else place, word.name, "(%s)" % word.choices() if word.kind == "Text" else "_files")
 

@@ -9,6 +9,7 @@ import re
 from tests.tables import rows as worked, sketch_rows as sketched, split_rows, worked_files as made
 from tests.tables.document_rows import BOTH, NORTH
 from tests.tables.exchange_rows import OTHER_LOG
+from tests.tables.growth_rows import erased, growth, sealed
 from tests.tables.proof_rows import WRONG, told as told_of
 from tests.tables.seal_rows import proof, seal
 from tests.tables.texts import C1, C2, CF, K1, KF, V1, V2, conflicts, data, digits, document, inventory, log, replica
@@ -20,8 +21,8 @@ CALLS = {
     **{name: [name] for name in (
         "run_join", "run_missing", "run_missing_by", "run_inventory", "run_rule", "run_rehearse", "run_show", "run_check")},
     **{"ask_" + name: ["run", "Request::accepts"] for name in (
-        "join", "split", "missing", "missing_by", "inventory", "missing_by_sketch", "seal", "prove", "verify", "rule", "rehearse", "show",
-        "check")},
+        "join", "split", "missing", "missing_by", "inventory", "missing_by_sketch", "seal", "prove", "verify", "sealed", "growth", "grew",
+        "omit", "rule", "rehearse", "show", "check")},
     "ask_sketch": ["run", "Cells::by_default"],
     "fault": ["status"],
     "metered": ["CountingSink::new", "CountingSink::bytes_written", "CountingSink::over_limit", "CountingSink::into_inner"],
@@ -30,6 +31,7 @@ CALLS = {
 COMMANDS, FAULTS, STREAMS = "What the commands write", "Fault lines", "ARCHITECTURE: Inputs and outputs"
 ALL = 4096  # more bytes than any reader here has
 EMPTY_LOG = document()
+STEP, BACK = growth([C1], [C1, C2]), [seal(C1, C2), seal(C1), growth([C1, C2], [C1])]
 
 
 def reader(text, piece=ALL, failing=0):
@@ -61,10 +63,18 @@ def engine(command, readers, to=None, asks=False):
         own = ["conflicts" if own else "log"]
     if name == "verify":
         own = ["absent" if own else "present"]
+    if name == "grew":
+        own = ["erased" if own else "all"]
     if name == "sketch":
         given = dict(re.findall(r"--(\w+)[= ](\w+)", command))
         own = [given.get(option, "") for option in ("cells", "salt")]
     return call, [*(to or writer()), *own, *(word for one in readers for word in one)]
+
+
+def in_order(words, files):
+    """The files of a command line, in the order in which they are read: an erased list comes last, wherever it stands."""
+    erased = words[words.index(b"--erased") + 1] if b"--erased" in words else None
+    return [files[word] for word in sorted(filter(files.__contains__, words), key=lambda word: word == erased)]
 
 
 def each(first, last, call, words):
@@ -85,8 +95,8 @@ def row(call, words, fields, heading):
 # The worked calls of the command, with the bytes of each reader borrowed (0), and in pieces of 1 to 7 bytes.
 LARGE = 6000  # bytes of an input that is at a limit: the command alone reads it
 for name, words, files, wanted in worked.all_rows():
-    inputs = [files[word] for word in words if word in files]
-    if wanted.status == 2 or max(len(text) for text in inputs) > LARGE:
+    inputs = in_order(words, files)
+    if wanted.status == 2 or max(len(text) for text in inputs) > LARGE or len(inputs) < len(files):  # a word may have an option and its file
         continue
     command = " ".join(word.decode() for word in words if word not in files)
     call, asked = engine(command, [reader(text, "N") for text in inputs])
@@ -173,6 +183,11 @@ READ = [
     ("prove", [made.NOTHING_TREE, EMPTY_LOG, NONE], proof([], [])),
     ("verify", [seal(C1), made.EVENT_TREE, proof([digits(C1)], [digits(C1)])], told_of("present", [C1])),
     ("verify --absent", [seal(), made.EVENT_TREE, proof([], [])], told_of("absent", [C1])),
+    ("sealed", [made.NOTHING_TREE], sealed()),
+    ("growth", [sealed(), EMPTY_LOG, NONE], growth([], [])),
+    ("grew", [seal(), seal(C1), growth([], [C1])], "added 1\n"),
+    ("grew --erased", [seal(), seal(), growth([], []), erased()], "added 0, erased 0\n"),
+    ("omit", [erased(keys=[C1]), EMPTY_LOG, NONE], made.NOTHING_TREE),
     ("rule P name 2", [NAMED], made.SOUTH_TREE),
     ("rehearse g 2", [TWO_SITES], "site 0 atoms 0 as 0\nsite 1 atoms 0 as 0\n"),
     ("show", [made.EVENT_TREE, NONE], log(V1)),
@@ -225,6 +240,11 @@ WRITTEN = [
     ("seal", [made.EVENT_TREE], seal(C1), LINES),
     ("prove", [V1, made.TWO], proof([digits(C1)], [digits(C1), digits(C2)]), LINES),
     ("verify", [seal(C1, C2), made.TWO, proof([digits(C1), digits(C2)], [digits(C1), digits(C2)])], told_of("present", [C1, C2]), HEADS),
+    ("sealed", [made.EVENT_TREE], sealed(C1), LINES),
+    ("growth", [sealed(C1), made.TWO], growth([C1], [C1, C2]), LINES),
+    ("grew", [seal(C1), seal(C1, C2), STEP], "added 1\n", WHOLE),
+    ("grew --erased", [*BACK, erased(C2, keys=[C2])], "added 0, erased 1\n", WHOLE),
+    ("omit", [erased(keys=[C1]), made.TWO], made.SECOND_TREE, PARTS),
     ("rule P name 2", [NAMED], made.SOUTH_TREE, LINES),
     ("rehearse g 2", [""], "site 0 atoms 0 as 0\nsite 1 atoms 0 as 0\n", WHOLE),
 ]
@@ -249,11 +269,19 @@ for command, inputs, output, at_once in WRITTEN:
         for way in ("refuses", "takes-nothing"):
             fail_writes(command, inputs, output, at_once, piece, way)
 
+
+def shown(atom):
+    """The fields of the atom's digest, in a fault by name."""
+    return ("Digest{bytes:[%s]}" % ",".join(map(str, bytes.fromhex(digits(atom))))).split(",")
+
+
 # A command, its readers, and its fault by name, where the first write would fail: nothing is written before all else.
 FAILING, GOOD, EVENT, BAD = reader(EMPTY_LOG, ALL, 1), reader(EMPTY_LOG), reader(V1), reader("{")
 OTHER, OTHER_NOTED, OTHER_SKETCHED = reader(OTHER_LOG), reader(inventory(log="h")), reader(sketched.sketch(3, 1, log="h"))
 ONE_SEALED, ONE_PROVED = reader(seal(C1)), reader(proof([digits(C1)], [digits(C1)]))
 SEALED_NONE, OTHER_PROVED = reader(seal()), reader(proof([], [], log='"h"'))
+OTHER_SEALED, GROWN_NONE = reader(seal(log='"h"')), reader(growth([], []))
+LISTED_NONE, OTHER_LISTED, ERASED_NONE, OTHER_ERASED = map(reader, (sealed(), sealed(log="h"), erased(), erased(log="h")))
 NOT_JSON_1, NOT_JSON_2 = ["Input", 1, "Json", "NotJson"], ["Input", 2, "Json", "NotJson"]
 IN_ORDER = [
     ("join", [], ["NoLog"]),
@@ -323,6 +351,38 @@ IN_ORDER = [
     ("verify", [SEALED_NONE, EVENT, reader(proof([], []))], ["Unverified", "Absent", 1]),
     ("verify --absent", [ONE_SEALED, EVENT, ONE_PROVED], ["Unverified", "Present", 1]),
     ("verify", [ONE_SEALED, EVENT, ONE_PROVED], ["WriteFault"]),
+    ("sealed", [EVENT, GOOD, OTHER], ["OtherLog", 3]),
+    ("growth", [FAILING, BAD], ["ReadFault", 1]),
+    ("growth", [BAD, FAILING], ["Input", 1, "File", "Truncated"]),
+    ("growth", [ERASED_NONE, FAILING], ["Input", 1, "File", "Version"]),
+    ("growth", [OTHER_LISTED, GOOD, FAILING], ["ReadFault", 3]),
+    ("growth", [OTHER_LISTED, GOOD, BAD], ["Input", 3, "Json", "NotJson"]),
+    ("growth", [LISTED_NONE, EVENT, EVENT], ["NoLog"]),
+    ("growth", [OTHER_LISTED, GOOD, OTHER], ["OtherLog", 3]),
+    ("growth", [OTHER_LISTED, GOOD, EVENT], ["OtherLog", 1]),
+    ("growth", [LISTED_NONE, EVENT, GOOD], ["WriteFault"]),
+    ("growth", [LISTED_NONE], ["NoLog"]),
+    ("grew", [FAILING, BAD, BAD], ["ReadFault", 1]),
+    ("grew", [BAD, FAILING, BAD], ["Input", 1, "File", "Truncated"]),
+    ("grew", [SEALED_NONE, FAILING, BAD], ["ReadFault", 2]),
+    ("grew", [SEALED_NONE, ONE_PROVED, FAILING], ["Input", 2, "File", "Version"]),
+    ("grew", [SEALED_NONE, SEALED_NONE, FAILING], ["ReadFault", 3]),
+    ("grew --erased", [SEALED_NONE, SEALED_NONE, SEALED_NONE, FAILING], ["Input", 3, "File", "Version"]),
+    ("grew --erased", [SEALED_NONE, OTHER_SEALED, GROWN_NONE, FAILING], ["ReadFault", 4]),
+    ("grew --erased", [SEALED_NONE, OTHER_SEALED, GROWN_NONE, LISTED_NONE], ["Input", 4, "File", "Version"]),
+    ("grew --erased", [SEALED_NONE, OTHER_SEALED, GROWN_NONE, ERASED_NONE], ["Ungrown", "OtherLog", 2]),
+    ("grew", [SEALED_NONE, ONE_SEALED, GROWN_NONE], ["Ungrown", "Proof", 3, "Facts", "OtherCount"]),
+    ("grew", [*map(reader, BACK)], ["Ungrown", "Gone", "Facts", *shown(C2)]),
+    ("grew", [SEALED_NONE, SEALED_NONE, GROWN_NONE], ["WriteFault"]),
+    ("grew --erased", [SEALED_NONE, SEALED_NONE, GROWN_NONE, ERASED_NONE], ["WriteFault"]),
+    ("omit", [FAILING, BAD], ["ReadFault", 1]),
+    ("omit", [BAD, FAILING], ["Input", 1, "File", "Truncated"]),
+    ("omit", [LISTED_NONE, FAILING], ["Input", 1, "File", "Version"]),
+    ("omit", [ERASED_NONE, EVENT, FAILING], ["ReadFault", 3]),
+    ("omit", [ERASED_NONE, EVENT, EVENT], ["NoLog"]),
+    ("omit", [OTHER_ERASED, GOOD, OTHER], ["OtherLog", 3]),
+    ("omit", [OTHER_ERASED, GOOD, EVENT], ["OtherLog", 1]),
+    ("omit", [ERASED_NONE, EVENT, GOOD], ["WriteFault"]),
     ("rule X e1 0", [FAILING], ["ReadFault", 1]),
     ("rule X e1 0", [BAD], NOT_JSON_1),
     ("rule X e1 1", [EVENT], ["NoLog"]),
@@ -363,7 +423,7 @@ IN_ORDER = [
     ("missing-by-sketch --from", [reader(made.CHAINS), EVENT, reader(sketched.sketch(3, 1, C2, CF, KF))],
      ["TooFewCells", 3, sketched.ASKED]),
 ]
-IN_ORDER += [(command, [one], fault) for command in ("sketch", "inventory", "seal", "show", "show --conflicts", "check") for one, fault in (
+IN_ORDER += [(command, [one], fault) for command in ("sketch", "inventory", "seal", "sealed", "show", "show --conflicts", "check") for one, fault in (
     (FAILING, ["ReadFault", 1]), (BAD, NOT_JSON_1), (EVENT, ["NoLog"]), (GOOD, ["WriteFault"]))]
 for command, readers, fields in IN_ORDER:
     row(*engine(command, readers, writer(ALL, "refuses", 1)), ["err", *fields], FAULTS)

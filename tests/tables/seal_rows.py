@@ -85,20 +85,20 @@ def leaves_for(fact, leaves):
 
 
 def parts_with(leaves, shown):
-    """The tree's parts, of which these leaves are shown: each its letter, and its digits if it has some."""
+    """The tree's parts: each its letter, and its digits if it has some. `shown` has the letter of each leaf that is shown."""
     if not leaves:
         return []
     if not set(leaves) & set(shown):
         return [["H", tree_hash(leaves)]]
     if len(leaves) == 1:
-        return [["P", *leaves]]
+        return [[shown[leaves[0]], *leaves]]
     return [["N"]] + [part for half in halves(leaves) for part in parts_with(half, shown)]
 
 
 def parts(facts, digests):
     """What a proof for these facts has."""
     leaves = sorted(set(digests))
-    return parts_with(leaves, {leaf for fact in facts for leaf in leaves_for(fact, leaves)})
+    return parts_with(leaves, {leaf: "P" for fact in facts for leaf in leaves_for(fact, leaves)})
 
 
 def proof_with(parts, log='"g"'):

@@ -12,7 +12,7 @@ import tempfile
 
 from tests import TOP
 
-SIZE = 1200, 860
+SIZE = 1200, 700
 DOCS = os.path.join(TOP, "docs")
 
 

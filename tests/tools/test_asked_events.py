@@ -1,6 +1,7 @@
 """cadf-events: what is asked of files and of folders, with an index and without, beside plain Python over what a log shows."""
 import collections
 import csv
+import hashlib
 import io
 import json
 import os
@@ -150,8 +151,9 @@ def test_wrong_counts_are_caught(cadf, tmp_path, right, wrong):
     ("{key: places[key] for key in keys & places.keys()}", "{}"), ("if key in self.apart}", "if key not in self.apart}"),
     ("not self.open.isdisjoint(parts)", "False"), ("self.ruled_in.setdefault(*parts, []).append(key)", "pass"), ('"ruled" not in conflict and ', ""),
     ("rulings = windows.ruled_of(windows.common)", "rulings = []"), ("several |= own", "several |= keys_of(keys or b'')"),
-    ("windows.facts), reverse=self.is_reversed)", "windows.facts))"), ("if is_only_open or self.counts is not None:", "if is_only_open:"),
-    ("self.question.has(value, each[2])", "True"), ("((OF_SEVERAL, numbers.subtract),)", "()"),
+    ("windows.facts), reverse=self.is_reversed)", "windows.facts))"), ("if self.counts is not None:", "if False:"),
+    ("self.question.has(value, each[2])", "True"), ("((OF_SEVERAL, counts.subtract),)", "()"),
+    ("set().union(ruled_in(folder), *shown.values())", "set()"), ("of_several = {part: keys & apart for part, keys in of_several.items()}", "pass"),
 ])
 def test_wrong_versions_are_caught(cadf, tmp_path, right, wrong):
     tools = copied(tmp_path / "copy", right, wrong)
@@ -194,7 +196,8 @@ def days(count, **more):
     (["--initiator", "carol"], (2, 3), 3),
     (["--contradicted", "only"], (2, 3), 2),
     (["--count-by", "day", "--initiator", "bob"], (), 0),
-    (["--count-by", "action"], (2, 3), 3),
+    (["--count-by", "action"], (), 0),
+    (["--count-by", "day", "--contradicted", "only"], (), 0),
     (["-n", "2", "--since", "2024-03-05"], (5, 6, 7), 3),
     (["-n", "2", "--reverse"], (28, 29, 30, 2, 3), 5),
 ])
@@ -211,6 +214,23 @@ def test_only_what_may_answer_is_read(counted, tmp_path, more, windows, programs
     assert ask(cadf, *more, folder) == right and right.status in (0, 5) and b"Traceback" not in right.error
     assert len(calls()) <= programs
     assert ask(cadf, "--no-index", *more, folder).status in (1, 5) or len(windows) == 30
+
+
+@pytest.mark.parametrize("way, found", [
+    ("mark", [{"count": 1, "initiator": "bob"}, {"contradicted": 2, "count": 0, "initiator": "carol"}]), ("hide", [{"count": 1, "initiator": "bob"}]),
+    ("only", [{"contradicted": 2, "count": 0, "initiator": "carol"}])])
+def test_what_an_index_counts(counted, tmp_path, way, found):
+    """Events and bodies that contradict are counted without a look at the files; of a key that is ruled on the event that the log shows."""
+    cadf, calls = counted
+    atoms = document({"id": LOG, "events": days(1)})[1]
+    folder = folder_of(tmp_path / "site", atoms, "day", random.Random(0))
+    answer = ask(cadf, "--count-by", "initiator", "--contradicted", way, folder)
+    assert (list(map(json.loads, answer.output.splitlines())), answer.status, calls()) == (found, 5, [])
+    body = next(each for each in sorted(atoms) if each[:2] == ("E", "both"))
+    ruled = folder_of(tmp_path / "ruled", atoms | {("U", "E", "both", hashlib.sha256(body[2].encode()).hexdigest())}, "day", random.Random(0))
+    answer = ask(cadf, "--count-by", "initiator", "--contradicted", way, ruled)
+    one = [{"count": 1, "initiator": each} for each in ("bob", "carol")] if way != "only" else []
+    assert (list(map(json.loads, answer.output.splitlines())), answer.status) == (one, 0) and calls()
 
 
 def test_lines_are_written_as_they_are_found(cadf, tmp_path):

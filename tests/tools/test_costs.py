@@ -14,16 +14,23 @@ import sys
 
 import pytest
 
+from tests import TOP
 from tests.machine import ended
 from tests.reference.events import document
-from tests.reference.replica_files import file_of
+from tests.reference.replica_files import file_of, read_file
 from tests.tools.copies import copied
 from tests.tools.test_sync import TRIED
+
+import cadf_lengths
+import cadf_plan
+import cadf_site
 
 DAYS, EVENTS = 6, 20  # windows of the honest site, and events of each
 SHARE = 4  # what a byte of a stranger's may cost, beside an honest one
 STARTS, OF_WINDOW = 12, 3  # programs that a call may start more; for each window that the stranger begins
 YEARS = range(1900, 1920)
+DAYS_SENT = range(1, DAYS + 1)
+ALL = [(day, number) for day in DAYS_SENT for number in range(EVENTS)]  # the honest events
 EVENT = {"eventType": "activity", "action": "read", "outcome": "success", "initiatorId": "u1", "targetId": "t1", "observerId": "s1"}
 # Notes of each call its command, the bytes of the files that it is given, and what it writes.
 COUNTING = """#!/bin/sh
@@ -63,7 +70,12 @@ def rulings(count):
 
 ATTACKS = {"chains that share a large step": lambda: shared_step(120000), "rulings of no key": lambda: rulings(2000),
            "a window for each event": lambda: facts(*(dict(honest(1, 0), id="w%d" % number, eventTime="%d-01-01T00:00:00Z" % number) for number in YEARS)),
-           "events of a day": lambda: facts(*(dict(honest(2, 0), id="x%d" % number) for number in range(100)))}
+           "events of a day": lambda: facts(*(dict(honest(2, 0), id="x%d" % number) for number in range(100))),
+           "another body of each event": lambda: facts(*(dict(honest(day, number), outcome="failure") for day, number in ALL)),
+           "a body in another window of each event": lambda: facts(*(dict(honest(day, number), eventTime="2024-04-%02dT00:00:00Z" % day) for day, number in ALL)),
+           "rulings of each key": lambda: {("U", "E", "e%d.%d" % each, hashlib.sha256(b"x").hexdigest()) for each in ALL},
+           "an event in each window": lambda: facts(*(dict(honest(day, 0), id="one") for day in DAYS_SENT))}
+BEGUN = {"a window for each event": len(YEARS), "a body in another window of each event": DAYS}  # windows
 
 
 class Place:
@@ -103,6 +115,10 @@ CALLS = {
     "sync": ("cadf-sync", "--conflicts", "site/", "other/"), "take": ("cadf-take", "site/", "more.cadf")}
 
 
+OF_CONFLICTS = ("conflicts", "sync")  # which read what has conflicts alone
+LATER = ("sync",)  # which once read windows to which something came, for that their sender is charged: it is made a second time
+
+
 @pytest.fixture(scope="module")
 def tools(tmp_path_factory):
     """The tools, whose commands may note their calls."""
@@ -121,6 +137,8 @@ def costs(path, cadf, tools, attack=None, names=tuple(CALLS)):
     for name in names:
         shutil.copytree(path / "site", path / "kept")
         shutil.copytree(path / "other", path / "kept-other")
+        if name in LATER:
+            place.run(*CALLS[name])
         found[name] = place.counted(*CALLS[name])
         for each in "site", "other":
             shutil.rmtree(path / each)
@@ -137,9 +155,9 @@ def before(tmp_path_factory, cadf, tools):
 
 def check_costs(path, cadf, tools, attack, before, names=tuple(CALLS)):
     after, size, sent = costs(path, cadf, tools, attack, names)
-    starts = STARTS + OF_WINDOW * len(YEARS if attack == "a window for each event" else ())
+    starts = STARTS + OF_WINDOW * BEGUN.get(attack, 0)
     shares = {name: sent / (size / DAYS if name == "events of a day" else size) for name in names}  # of the bytes that the call reads
-    least = {name: size if name == "conflicts" else read for name, (_, read) in before.items()}  # that reads what has conflicts alone
+    least = {name: size if name in OF_CONFLICTS else read for name, (_, read) in before.items()}
     dear = {name: (before[name], found) for name, found in after.items()
             if found[0] > before[name][0] + starts or found[1] > least[name] * (1 + SHARE * shares[name]) + 2 ** 16}
     assert dear == {}, "honest %d bytes, sent %d" % (size, sent)
@@ -154,12 +172,13 @@ def test_what_a_stranger_sends_costs_its_bytes(tmp_path, cadf, tools, before, at
 @pytest.mark.xdist_group("costs")
 @pytest.mark.parametrize("attack, right, wrong", [
     ("chains that share a large step", "return {key: each for key, each in found.items() if each.size > most}", "return {}"),
-    ("rulings of no key", "opened(windows.ruled(window))", "opened(windows.rulings)")])
+    ("rulings of no key", "opened(windows.ruled(window))", "opened(windows.rulings)"),
+    ("a body in another window of each event", "return names if len(names) < at_once() else self.joined(names)", "return self.joined(self.joined(names) + [self.put([])])")])
 def test_tools_that_cost_more_are_caught(tmp_path, cadf, before, attack, right, wrong):
     wrongs = copied(str(tmp_path / "copy"), right, wrong, *TRIED[2:])
     (tmp_path / "place").mkdir()
     with pytest.raises(AssertionError):
-        check_costs(tmp_path / "place", cadf, wrongs, attack, before, ("events",))
+        check_costs(tmp_path / "place", cadf, wrongs, attack, before, ("events", "events by an index"))
 
 
 @pytest.mark.xdist_group("costs")
@@ -175,6 +194,43 @@ def test_an_event_in_each_window_costs_what_its_sender_may(tmp_path, cadf, tools
     assert len(list((tmp_path / "site").glob("2024-*"))) == len(files) + 1  # else there is nothing to read
     _, size = place.counted(*CALLS["seal"])
     assert 0 < size <= SHARE * (max(files) + (tmp_path / "sent.cadf").stat().st_size), (size, files)
+
+
+@pytest.mark.xdist_group("costs")
+def test_a_conflict_in_each_window_costs_its_bytes(tmp_path, cadf, tools):
+    """The numbers of conflicts, which each timer makes, are of the keys alone that the index names, and of no other facts of their windows."""
+    place = Place(tmp_path, cadf, tools)
+    place.put("sent.cadf", facts(*(dict(honest(day, 0), id="one") for day in DAYS_SENT)))
+    for site in "site/", "other/":
+        place.run("cadf-take", site, "sent.cadf", "more.cadf")
+    assert place.run(*CALLS["sync"]).output.endswith(b"; 1 open conflicts\n")
+    starts, size = place.counted(*CALLS["sync"])
+    assert (starts, size <= SHARE * (tmp_path / "sent.cadf").stat().st_size) == (1, True), size
+
+
+@pytest.mark.xdist_group("costs")
+def test_what_looks_like_a_record_is_read_alone(tmp_path, cadf, tools, monkeypatch):
+    """Who looks for the records of rulings reads each window once in which an event has their action, and then that event's lines; also once files were joined."""
+    place = Place(tmp_path, cadf, tools)
+    sent = facts(*(dict(honest(day, 0), id="r%d" % day, action="evaluate/ruling") for day in DAYS_SENT))
+    place.put("sent.cadf", sent)
+    place.run("cadf-take", "site/", "sent.cadf", "more.cadf")
+    place.run("cadf-conflicts", "site/")
+    right, read = cadf_plan.located, []
+    monkeypatch.setattr(cadf_plan, "located", lambda files: read.append(files) or right(files))
+
+    def found():
+        read.clear()
+        with cadf_site.Folder(str(tmp_path / "site"), {}) as folder:
+            names = cadf_plan.picked(folder, (), str(tmp_path)).names
+        with open(tmp_path / "site" / "site", encoding="utf-8") as lines:
+            count = len([line for line in lines if line.startswith("F 2024")])
+        return set().union(*(read_file(open(name, "rb").read())[1] for name in names)), len(read), count
+
+    assert found() == (sent, 0, 2 * DAYS)
+    place.run("cadf-take", "--settle", "site/")
+    assert found() == (sent, DAYS, DAYS)
+    assert found() == (sent, 0, DAYS)
 
 
 @pytest.mark.xdist_group("costs")
@@ -239,6 +295,17 @@ def test_nobody_hides_an_event_by_a_long_body(tmp_path, cadf, tools, is_folder):
     assert len(lines) == DAYS * EVENTS and [each for each in lines if "contradicted" in each] == [{"contradicted": 2, "event": own}]
     said = found.error.decode()
     assert found.status == 5 and "left out the event \"alone\", whose" in said and "left out 1 of 2 bodies of the event \"e1.1\", whose" in said
+
+
+def test_nobody_hides_an_event_as_one_that_is_left_out(tmp_path, cadf, tools):
+    """Bodies that begin as what stands in the place of a long one, as far as a sender can know it, are shown."""
+    place = Place(tmp_path, cadf, tools)
+    forged = [dict(honest(1, 0), id="mine", initiatorId="%s%d bytes, %064d" % (cadf_lengths.LEFT_OUT, size, size)) for size in (1, 2)]
+    place.put("sent.cadf", facts(*forged))
+    place.run("cadf-take", "site/", "sent.cadf")
+    found = place.run("cadf-events", "--contradicted=only", "site/")
+    shown = [json.loads(line) for line in found.output.splitlines()]
+    assert found.status == 5 and [each["event"]["initiatorId"] for each in shown] == [each["initiatorId"] for each in forged]
 
 
 @pytest.mark.parametrize("kind", ["replica", "document", "several files"])

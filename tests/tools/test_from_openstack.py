@@ -11,6 +11,7 @@
 import base64
 import copy
 import glob
+import hashlib
 import json
 import os
 import random
@@ -429,6 +430,34 @@ def test_several():
     lines = "".join("%s%s\n" % ("{}" * 30000, " " * number) for number in range(3))
     done = read(lines, preexec_fn=lambda: resource.setrlimit(resource.RLIMIT_CPU, (20, 20)))
     assert (done.status, len(done.entries), done.counts, len(done.entries[0]["faults"])) == (1, 3, counts(aside=90000), 101)
+
+
+def test_publishers(tool=TOOL):
+    """Each event is in the documents of its publisher's number alone, and of none's if its notification names none; together they are the one document."""
+    named = {"nova.a": [notification(event(id="a%d" % number)) for number in range(4)], "": [envelope(event(id="b")), event(id="c")], "nova.b": [notification([event(id="d"), event(id="e")])]}
+    lines = [dict(each, publisher_id=name) if name and isinstance(each, dict) else each for name in named for each in named[name]]
+    lines[2] = {"oslo.version": "2.0", "oslo.message": json.dumps(lines[2])}
+    lines[4] = json.loads(json.dumps(lines[4]).replace('\\"publisher_id\\": \\"p\\", ', ""))
+    lines.append(dict(notification(event(id="f")), publisher_id=[1]))  # which names nobody
+    number_of = {name: int.from_bytes(hashlib.blake2b(name.encode(), digest_size=8).digest(), "big") % 5 for name in named}
+    assert len(set(number_of.values())) == 3
+    done = ended(tool, ["--log", "g", "--split", "part-", "--publishers", "5"], input=lines_of(lines).encode())
+    found = {name: [each["id"] for each in json.loads(open(name, encoding="utf-8").read())["events"]] for name in sorted(glob.glob("part-*.json"))}
+    wanted = {"nova.a": ["a0", "a1", "a2", "a3"], "": ["b", "c", "f"], "nova.b": ["d", "e"]}
+    assert done.status == 0 and found == {"part-%02d-0001.json" % number_of[name]: ids for name, ids in wanted.items()}
+    assert (ended(tool, ["--log", "g", "--split", "none-", "--publishers", "5"], input=b"").status, len(glob.glob("none-*"))) == (0, 1)
+    done = ended(tool, ["--log", "g", "--split", "size-", "--publishers", "5", "--size", "4096"], input=lines_of(event(id="e%d" % number, n="x" * 1000) for number in range(5)).encode())
+    assert done.status == 0 and sorted(glob.glob("size-*")) == ["size-%02d-%04d.json" % (number_of[""], number) for number in (1, 2)]
+    for words in (["--publishers", "5"], ["--split", "x-", "--publishers", "0"], ["--split", "x-", "--publishers", "101"]):
+        assert ended(tool, ["--log", "g", *words]).status == 2
+
+
+@pytest.mark.parametrize("right, wrong", [
+    ("publisher=publisher if isinstance(publisher, str) else \"\")", "publisher=\"\")"), ("self.documents.add(kept, item.publisher)", "self.documents.add(kept, \"\")"),
+    ("for each in self.found.values() or [self.of(\"\")]:", "for each in self.found.values():")])
+def test_publishers_that_are_wrong_are_found(right, wrong):
+    with pytest.raises(AssertionError):
+        test_publishers(wrong_copy(right, wrong))
 
 
 def relayed(value, number):

@@ -54,12 +54,13 @@ def planned(folder, make=lambda index, _: rows_of(index)):
 
 def rows_of(index):
     """All that it has, without its numbers."""
-    texts = dict(index.run("SELECT id, text FROM texts"))
+    texts = [dict(index.run("SELECT id, text FROM %s_texts" % column)) for column in cadf_index.COLUMNS]
     bodies = index.run("SELECT name, key, second, nanosecond, initiator, target, others FROM bodies JOIN windows ON windows.id = window").fetchall()
-    assert set(texts) == {number for row in bodies for number in row[4:]} - {0}
-    places = sorted(index.places(index.several()).items())
+    assert list(map(set, texts)) == [{row[place] for row in bodies} - {0} for place in (4, 5, 6)]
+    several = {each: index.windows_with(each) for each in index.several()}
+    places = sorted(index.places(several).items())
     assert sum(len(own) for _, own in places) == index.run("SELECT count(*) FROM places").fetchone()[0]
-    return sorted((*row[:4], *(texts.get(number) for number in row[4:])) for row in bodies), sorted(index.several().items()), places
+    return sorted((*row[:4], *(own.get(number) for own, number in zip(texts, row[4:]))) for row in bodies), sorted(several.items()), places
 
 
 def bodies_of(atoms):
@@ -102,7 +103,7 @@ def test_keys_and_counts(tmp_path, seed):
 
         assert planned(folder, check)
     several = {name: {part for part, own in windows.items() if name in [each["id"] for each in own]} for name, count in counts.items() if count > 1}
-    assert planned(folder, lambda index, _: index.several()) == {key({"id": name}): parts for name, parts in several.items()}
+    assert planned(folder, lambda index, _: {each: index.windows_with(each) for each in index.several()}) == {key({"id": name}): parts for name, parts in several.items()}
 
 
 def day_of(each):
@@ -250,7 +251,7 @@ def test_windows_whose_files_were_joined(tmp_path, monkeypatch):
     plain = [dict(event(chance, "plain%d" % number), eventTime="2024-06-%02dT00:00:00Z" % (1 + number % 5)) for number in range(30)]
     atoms = facts(chance, 60) | document({"id": LOG, "events": plain})[1]
     folder_of(folder, atoms, "day", chance)
-    several = set().union(*planned(folder, lambda index, _: index.several()).values())
+    several = planned(folder, lambda index, _: index.windows_of_several())
     with Folder(str(folder)) as site:
         before = site.site().parts()
         cadf_index_file.keep(site, "root 1", {cadf_index.files_of(files): ("7 x", 1, 5) for files in before.values()})
@@ -346,8 +347,8 @@ def plant(wrong, path):
 
 
 @pytest.mark.parametrize("wrong", ["wider", "link", "names", "fifo", "folder", "journal", "text", "cut", pytest.param("owner", marks=pytest.mark.root),
-                                   "PRAGMA user_version = 2", "PRAGMA application_id = 7", "PRAGMA journal_mode = wal", "DROP TABLE several",
-                                   "CREATE VIEW odd AS SELECT 1", "CREATE TRIGGER odd AFTER DELETE ON texts BEGIN DELETE FROM bodies; END"])
+                                   "PRAGMA user_version = 1", "PRAGMA application_id = 7", "PRAGMA journal_mode = wal", "DROP TABLE several",
+                                   "CREATE VIEW odd AS SELECT 1", "CREATE TRIGGER odd AFTER DELETE ON windows BEGIN DELETE FROM bodies; END"])
 def test_a_wrong_one_is_passed_over(tmp_path, capsys, cache, wrong):
     """It is told, stays as it is, and the answer is that of one elsewhere."""
     folder = tmp_path / "site"

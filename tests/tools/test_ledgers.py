@@ -3,7 +3,9 @@
 A test has the tool take the files of whoever runs it for those of another user: it is told another number for its own.
 """
 import contextlib
+import datetime
 import functools
+import hashlib
 import io
 import json
 import os
@@ -13,19 +15,23 @@ import time
 import pytest
 
 from tests import TOP
-from tests.reference.replica_files import read_file
+from tests.machine import ended
+from tests.reference.replica_files import file_of, read_file
 from tests.tools import others
 from tests.tools.copies import is_caught
+from tests.tools.programs import tool
 from tests.tools.test_rest import atoms_of, days, event
 from tests.tools.test_spool import Spools, content, held, put, shared
 
 sys.path.insert(0, os.path.join(TOP, "share", "cadf"))
 import cadf_ledgers
+import cadf_rest
 import cadf_spool
 
 __all__ = ["shared"]
 NONE = dict.fromkeys(cadf_ledgers.KINDS, 10 ** 12)  # limits that nobody reaches
 USER = os.getuid()
+BUS = 2 ** 32
 
 
 class Place(Spools):
@@ -268,6 +274,162 @@ def test_the_sender_of_a_copy_is_known(place):
     assert again.user("a.json") == 12345 and again.claimed() == ["a.json"]
 
 
+def test_what_has_rulings_is_taken_alone(place):
+    """With --rulings-by each signature costs a program, so a stranger's file of few bytes is no part of a group, of which each sender pays by its bytes."""
+    ruling = ("U", "E", "b", "0" * 64)
+    for name in ("a.json", "c.json", "d.json"):
+        place.send(name, event(name, "2024-03-01T12:00:00Z"))
+    put(os.path.join(place.spool, "b.cadf"), file_of("g", {ruling}))
+    put(os.path.join(place.folder, "allowed"), b"")
+    groups = []
+    for rulings in (["--no-rulings"], ["--rulings-by=" + os.path.join(place.folder, "allowed")]):
+        program = place.program()
+        run = program.Run(program.Spool(place.spool), os.path.join(place.place, "site"), "g", program.Budget(0, 2 ** 30, 60, 2 ** 32), "day", ["--windows=400"], NONE, rulings)
+        right, run.take = run.take, lambda files: groups.append(list(files)) or right(files)
+        assert run.run() == 0
+        os.close(run.spool.lock)
+        for name in os.listdir(os.path.join(place.spool, "taken")):
+            os.rename(os.path.join(place.spool, "taken", name), os.path.join(place.spool, name))
+    assert groups == [["a.json", "b.cadf", "c.json", "d.json"], ["a.json"], ["b.cadf"], ["c.json", "d.json"]]
+
+
+def test_facts_that_wait_cost_their_sender_time(place):
+    """What is joined to facts that wait is read each time."""
+    place.run_once()
+    program = place.program()
+    run = program.Run(program.Spool(place.spool), os.path.join(place.place, "site"), "g", program.Budget(0, 2 ** 30, 60, 2 ** 32), "day", [], NONE)
+    charged = []
+    run.charge, run.keep = lambda *words: charged.append(words), lambda *words: None
+    program.seconds_spent = iter([1, 5]).__next__
+    with run.spool.working():
+        put(os.path.join(place.spool, "taking", program.REST), b"")
+        run.keep_rest({USER: []}, "cadf-take: x/rest: 3 facts wait, of 3 windows" + cadf_rest.WHAT_NEXT)
+    os.close(run.spool.lock)
+    assert charged == [(USER, "seconds", 4)]
+
+
+def test_a_bus_makes_nobodys_share_of_the_cap_less(place):
+    """However many publishers have facts that wait, they are one sender beside users."""
+    place.run_once()
+    program = place.program()
+    spool = program.Spool(place.spool)
+    for name, user in [("waits-bus-%d.cadf" % number, BUS + number) for number in range(20)] + [("waits-7.cadf", 7)]:
+        put(os.path.join(place.spool, "set-aside", name), bytes(10 ** 4))
+        spool.add_sender(name, user)
+    assert spool.beyond_cap(10 ** 5) == {USER}  # a half is free to user 7
+    os.close(spool.lock)
+
+
+# ---- Publishers of a bus
+
+def published(publisher, *events):
+    """Lines of a listener: an envelope each, of a publisher, or of none."""
+    named = {} if publisher is None else {"publisher_id": publisher}
+    return b"".join(json.dumps({"oslo.version": "2.0", "oslo.message": json.dumps({"event_type": "x", **named, "payload": each})}).encode() + b"\n" for each in events)
+
+
+def number_of(publisher):
+    return int.from_bytes(hashlib.blake2b(publisher.encode(), digest_size=8).digest(), "big") % 64
+
+
+LOUD, QUIET = "identity.north-1", "compute.north-2"
+
+
+def test_levels_of_publishers(tmp_path):
+    """Each number may cost a share in a day, and more as long as all together haven't cost what a bus may: eight times the bytes of a user."""
+    folder, limits = os.open(tmp_path, os.O_RDONLY), dict(NONE, bytes=800, windows=64)
+    ledgers = cadf_ledgers.Ledgers(folder, limits)
+    ledgers.charge(BUS, "bytes", 6000)
+    ledgers.charge(BUS, "windows", 63)
+    assert [ledgers.reached(BUS, {"bytes": more}) for more in (399, 400)] == [None, "bytes"] and ledgers.left(BUS, "windows") == ledgers.left(BUS + 1, "windows") == 1
+    ledgers.charge(BUS, "bytes", 400)
+    ledgers.charge(BUS, "windows", 1)
+    assert [ledgers.reached(user, {}) for user in (BUS, BUS + 1, BUS + 63, 7)] == ["bytes", None, None, None]
+    assert [ledgers.left(user, "windows") for user in (BUS, BUS + 1, 7)] == [0, 1, 64]
+    ledgers.charge(BUS + 1, "bytes", 100)
+    ledgers.charge(BUS + 1, "windows", 1)
+    assert [ledgers.reached(user, {}) for user in (BUS + 1, BUS + 2)] == ["bytes", None] and ledgers.left(BUS + 1, "windows") == 0
+    ledgers.write()
+    right = time.time
+    cadf_ledgers.time.time = lambda: right() + 86400
+    try:
+        found = cadf_ledgers.Ledgers(folder, limits)
+    finally:
+        cadf_ledgers.time.time = right
+    assert abs(found.level(BUS, "bytes") - 6300) < 1 and abs(found.level(BUS + 64, "bytes") - 100) < 1 and found.level(BUS + 1, "bytes") < 1
+    assert found.reached(BUS, {}) is None  # of what all may cost much is free again
+    os.close(folder)
+
+
+class Bus(Place):
+    """The same, but the files are the caller's own, as a listener's are."""
+
+    def admits(self, *words):
+        return ended(sys.executable, [tool("cadf-admit"), *words], cwd=self.place, env={**os.environ, "CADF": self.cadf})
+
+    def run_once(self, budget=(), **limits):
+        program, said = self.program(), []
+        program.say = said.append
+        run = program.Run(program.Spool(self.spool), os.path.join(self.place, "site"), "g", program.Budget(0, 2 ** 30, 60, 2 ** 32)._replace(**dict(budget)), "day",
+                          ["--windows=400"], {**NONE, **limits})
+        try:
+            run.run()
+        finally:
+            os.close(run.spool.lock)
+        return held(self.spool), said
+
+
+@pytest.fixture
+def bus(cadf, tmp_path):
+    return Bus(cadf, tmp_path)
+
+
+def test_a_publisher_that_costs_much_waits_alone(bus):
+    """What one sends beyond a day's bytes waits in taking/, and comes later; another's, and what names nobody, is in the site within the run."""
+    first, more = [[event("%s%d" % (key, number), "2024-03-01T12:00:00Z") for number in range(300)] for key in "ab"]
+    quiet, nobody = event("quiet", "2024-03-01T12:00:00Z"), event("nobody", "2024-03-01T12:00:00Z")
+    bus.lines("1.jsonl", published(LOUD, *first))
+    files, said = bus.run_once(bytes=12500)
+    assert bus.holds() == atoms_of(*first) and sorted(files) == ["taken/1.jsonl"]
+    bus.lines("2.jsonl", published(LOUD, *more[:9]) + published(QUIET, quiet) + published(LOUD, *more[9:]) + published(None, nobody))
+    own = "bus-%d.json" % number_of(LOUD)
+    for _ in range(2):
+        files, said = bus.run_once(bytes=12500)
+        assert bus.holds() == atoms_of(*first, quiet, nobody) and sorted(files) == ["taken/1.jsonl", "taken/2.jsonl", "taking/" + own]
+        assert "bus-%d: 1 files stay in taking/: more than --sender-bytes a day" % number_of(LOUD) in said
+        assert os.stat(os.path.join(bus.spool, "taking", own)).st_mode & 0o777 == 0o600
+    for _ in range(20):
+        bus.a_day_later()
+        files, _ = bus.run_once(bytes=12500)
+    assert bus.holds() == atoms_of(*first, *more, quiet, nobody) and sorted(files) == ["taken/1.jsonl", "taken/2.jsonl", "taken/" + own]
+
+
+def test_a_message_of_one_who_waits_alone(bus):
+    """A file of which all waits is taken, so that it isn't read again."""
+    bus.lines("1.jsonl", published(LOUD, *(event("a%d" % number, "2024-03-01T12:00:00Z") for number in range(300))))
+    bus.run_once(bytes=12500)
+    bus.lines("2.jsonl", published(LOUD, event("b", "2024-03-01T12:00:00Z")))
+    files, _ = bus.run_once(bytes=12500)
+    assert sorted(files) == ["taken/1.jsonl", "taken/2.jsonl", "taking/bus-%d.json" % number_of(LOUD)]
+
+
+def test_windows_of_publishers(bus):
+    """What one begins beyond what all may waits, by its number; another begins its share. Windows near now are begun by each."""
+    now = datetime.datetime.now(datetime.timezone.utc).strftime("%Y-%m-%dT%H:%M:%SZ")
+    many, old, recent = days("2024-01-01", 70), days("1999-01-01", 2, "old"), event("recent", now)
+    bus.lines("1.jsonl", published(LOUD, *many))
+    bus.run_once(windows=64)
+    assert bus.holds() == atoms_of(*many[-64:])
+    bus.lines("2.jsonl", published(LOUD, event("more", "1998-01-01T00:00:00Z"), recent) + published(QUIET, *old))
+    bus.run_once(windows=64)
+    assert bus.holds() == atoms_of(*many[-64:], old[1], recent)
+    waits = {"bus-%d" % number_of(publisher): "waits-bus-%d.cadf" % number_of(publisher) for publisher in (QUIET, LOUD)}
+    found = [read_file(content(os.path.join(bus.spool, "set-aside", name)))[1] for name in waits.values()]
+    assert found == [atoms_of(old[0]), atoms_of(*many[:6], event("more", "1998-01-01T00:00:00Z"))]
+    listed = [line.split("\t") for line in bus.admits("spool").output.decode().splitlines()]
+    assert {row[0]: row[3] for row in listed} == waits
+
+
 # ---- Two senders
 
 def of_a_user(shared, name, data, user):
@@ -323,9 +485,21 @@ def test_files_that_are_claimed_wait_if_their_sender_has_cost_too_much(shared):
     (test_windows_of_a_day, ["self.charge(user, kind, int(amount))", "self.charge(user, kind, 0)"]),
     (test_old_windows_of_a_day, ["changed = again & taking.changed.keys()", "changed = set()"]),
     (test_old_windows_of_a_day, ["if before >= most:", "if False:"]),
-    (test_processor_time_of_a_day, ["found.ru_utime + found.ru_stime + time.process_time()", "0"]),
+    (test_processor_time_of_a_day, ["self.ledgers.charge(user, kind, amount)", "self.ledgers.charge(user, kind, (kind != \"seconds\") * amount)"]),
     (test_a_cap_keeps_files_with_their_sender, ["size > most / len(sizes)", "size > most * 1000"]),
-    (test_a_line_that_is_long, ["\"--longest=%d\" % self.budget.longest, ", ""]),
+    (test_what_has_rulings_is_taken_alone, ["is_alone = any(map(self.may_be_dear, made))", "pass"]),
+    (test_a_bus_makes_nobodys_share_of_the_cap_less, ["os.geteuid() if is_of_bus(user) else user] += size", "user] += size"]),
+    (test_a_line_that_is_long, ["\"--longest=%d\" % self.budget.longest,", ""]),
     (test_the_sender_of_a_copy_is_known, ["else self.users.get(name, owner)", "else owner"])])
 def test_a_wrong_version_is_caught(cadf, tmp_path, check, texts):
     is_caught(tmp_path, texts, check, functools.partial(Place, cadf, tmp_path))
+
+
+@pytest.mark.parametrize("check, texts", [
+    (test_a_publisher_that_costs_much_waits_alone, ["[\"--publishers=%d\" % PUBLISHERS]", "[]"]),
+    (test_a_publisher_that_costs_much_waits_alone, ["self.spool.users[own] = user\n", "pass\n"]),
+    (test_a_publisher_that_costs_much_waits_alone, ["os.fchmod(file, 0o600)\n", "pass\n"]),
+    (test_a_message_of_one_who_waits_alone, [" or [self.empty(\"%d-\" % number)]", ""]),
+    (test_windows_of_publishers, ["[:own + len(windows) - sum(map(is_far, windows))]", "[:own]"])])
+def test_a_wrong_version_of_a_bus_is_caught(cadf, tmp_path, check, texts):
+    is_caught(tmp_path, texts, check, functools.partial(Bus, cadf, tmp_path))

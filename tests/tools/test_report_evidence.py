@@ -159,25 +159,55 @@ def test_paper(place, driver, page):
     assert said["filters"] == "outcome: success; until: 2024-03-02"
     assert said["rows"] == "1 of 4 events"
     assert [said["SHA-256 of the log text"], said["SHA-256 of the conflict list"]] == head.digests()
-    assert said["digest of all facts, as `cadf join` writes it"] == place.run("cadf", "join", "evidence.json")[-65:-1].decode()
+    assert said["digest of all facts, as cadf join writes it"] == place.run("cadf", "join", "evidence.json")[-65:-1].decode()
     assert LONG in "".join(printed(driver, place.path("raw.pdf"), "-raw").split())
     for column in ("Time (UTC)", "Outcome", "Action", "Initiator", "Target", "Observer", "Identifier", "1 of "):
         assert column in text, column
     tried.one("#clear").click()
 
 
+@pytest.mark.needs("pdftotext")
+def test_pages_of_paper(place, driver):
+    """Each page of a long print has the names of all columns above its rows, and its number."""
+    log = {"id": "g", "events": [dict(EVENT, id="event-%03d" % at) for at in range(150)]}
+    opened(driver, place.page("long", place.file("long.json", log)))
+    pages = printed(driver, place.path("long.pdf"), "-layout").split("\f")[:-1]
+    assert len(pages) > 3 and "event-149" in pages[-1]
+    for number, page in enumerate(pages, 1):
+        assert re.search(r"%d of %d\s*$" % (number, len(pages)), page)
+        if "event-" in page:
+            heads = page[:page.index("event-")]
+            assert [column for column in ("Time (UTC)", "Outcome", "Action", "Initiator", "Target", "Observer", "Reported after", "Identifier") if column not in heads] == []
+
+
 @pytest.mark.parametrize("words", [[], ["--since", "2024-03-02"]])
 def test_seal(place, words):
-    """A page names the digest of all that its files tell, or the seal of its folder, also if it has a part of that."""
+    """A page names the digest of all that its files tell, or the seal of its folder and its windows, also if it has a part of that."""
     for name, document in zip(("one.json", "other.json"), told_otherwise(3)):
+        document["events"].append(dict(EVENT, id="later", eventTime="2024-03-04T12:00:00Z"))
         place.file(name, document)
     page = Data(place.run("cadf-report", *words, "one.json", "other.json"))
-    assert page.named('id="seal"><dt>([^<]*)<') == "digest of all facts as `cadf join` writes it"
+    assert page.named('id="seal"><dt>([^<]*)<') == "digest of all facts as cadf join writes it"
     assert page.named('id="seal"><dt>[^<]*</dt><dd><code>([^<]*)<') == place.run("cadf", "join", "other.json", "one.json")[-65:-1].decode()
     seal = place.run("bash", "-c", "cadf-take --by day folder one.json; cadf-seal folder").decode()
     page = Data(place.run("cadf-report", *words, "folder"))
     counts = sum(int(count) for count in re.findall(r"^W \S+ ([0-9]+) ", seal, re.MULTILINE))
     assert page.named('id="seal"><dt>([^<]*)<') == "seal of the folder of %d facts by its digest" % counts
     assert page.named('id="seal"><dt>[^<]*</dt><dd><code>([^<]*)<') == seal.splitlines()[-1][2:]
+    windows = sorted(re.findall(r"^W (\d\S+) ", seal, re.MULTILINE))
+    assert len(windows) > 1 and page.named('id="windows" hidden>([^<]*)<') == "%d by day the first %s the last %s" % (len(windows), windows[0], windows[-1])
     page = Data(place.run("cadf-report", *words, "folder", "other.json"))
     assert page.named('id="seal"><dt>[^<]*</dt><dd><code>([^<]*)<') == ("" if words else place.run("cadf", "join", "other.json", "one.json")[-65:-1].decode())
+
+
+def test_windows(place, driver):
+    """Of a folder the view of what is complete names the windows, how many went, and from when on it keeps."""
+    place.file("days.json", {"id": "g", "events": [dict(EVENT, id="e%d" % day, eventTime="2024-03-0%dT12:00:00Z" % day) for day in (1, 2, 4)]})
+    place.run("cadf-take", "--by", "day", "days", "days.json")
+    place.run("cadf-forget", "--before", "2024-03-02", "--as", "ann", "--why", "old", "days")
+    tried = Tried(driver, place.page("days", "days")).ready()
+    tried.show("complete")
+    said = tried.texts(".complete li")
+    assert said[1] == "Windows: 2 by day, the first 2024-03-02, the last 2024-03-04; 1 went, whose roots the seal has."
+    assert said[2].startswith("Not all: days") and "2024-03-02" in said[2]
+    assert said[4] == "Days without an event: 1: 2024-03-03."

@@ -61,13 +61,15 @@ def events_of(*members):
 
 SEARCHED = events_of(
     {"initiator": {"id": "u1", "name": "alice"}, "action": "delete"}, {"initiator": {"id": "alice", "name": "bob"}, "outcome": "failure"},
-    {"initiatorId": "u3", "note": "delete two  words", "tags": ["t-1"]}, {"initiator": {"id": "u4", "name": "caf\u00e9"}}, {"initiator": {"id": "u4", "name": "cafe\u0301 bar"}})
+    {"initiatorId": "u3", "note": "delete two  words", "tags": ["t-1"], "long": "x" * 70 + "A", "unit": "300 \u212a"},  # the sign of the unit, which NFC makes a letter
+    {"initiator": {"id": "u4", "name": "caf\u00e9"}}, {"initiator": {"id": "u4", "name": "cafe\u0301 bar"}})
 
 
 @pytest.mark.parametrize("typed, found", [
     ("alice", "01"), ("alice delete", "0"), ("delete alice", "0"), ("delete", "02"), ("delete -alice", "2"), ("-delete", "134"), ("-alice -u4", "2"),
     ('"two  words"', "2"), ('"two words"', ""), ('-"two  words" delete', "0"), ("outcome:failure", "1"), ("-outcome:failure alice", "0"), ("initiator:alice", "01"),
     ("initiator:=alice", "01"), ("initiator:=u4", "34"), ("-initiator:u", "1"), ('initiator:="cafe\u0301 bar"', "4"), ("CAF\u00c9", "34"), ("cafe\u0301", "34"), ("id:e3", "3"), ("tag:t-1", "2"),
+    ("x" * 70 + "a", "2"), ("x" * 70 + "b", ""), ('"300 k"', "2"), ("T-1", "2"), ("t.1", ""), ("(", ""),
     ("nothing:alice", ""), ("nowhere", ""), ("-", "01234"), ("http://schemas", "01234"), ('"', "01234"), ("type:activity", "01234"), ("-type:activity", "")])
 def test_search(opened, typed, found):
     """Words, of which each is wanted, or unwanted with a `-` before it; in quotes, or of a field; names and identifiers alike, in either spelling."""
@@ -125,12 +127,15 @@ def test_reported_after(opened):
 
 
 @pytest.mark.parametrize("first, last, ticks", [
-    ("2023-11-20", "2024-11-05", ["2024-01", "2024-04", "2024-07", "2024-10"]), ("2024-01-31", "2024-08-02", ["2024-02", "2024-03", "2024-04", "2024-05", "2024-06", "2024-07", "2024-08"]),
+    ("2023-11-20", "2024-11-05", ["2023-12", *("2024-%02d" % month for month in range(1, 12))]), ("2020-02-10", "2023-12-20", ["%d-%02d" % (year, month) for year in range(2020, 2024) for month in (1, 4, 7, 10)][1:]), ("2024-01-31", "2024-08-02", ["2024-02", "2024-03", "2024-04", "2024-05", "2024-06", "2024-07", "2024-08"]),
     ("1999-06-01", "2008-01-01", ["2000", "2001", "2002", "2003", "2004", "2005", "2006", "2007", "2008"])])
 def test_ticks(opened, first, last, ticks):
     """Over months and years the timeline has borders where these begin."""
     tried = opened("ticks", events_of({"eventTime": first + "T07:30:00Z"}, {"eventTime": last + "T00:00:00Z"}))
     said = tried.texts("#histogram .axis:not(.scale) text")
+    places = tried.js("return [...document.querySelectorAll('#histogram .axis:not(.scale) text'), {getBoundingClientRect: () => ({left: document.getElementById('histogram').getBoundingClientRect().right})}]"
+                      ".map(each => each.getBoundingClientRect()).map(({left, right}) => [left, right])")
+    assert all(before[1] <= after[0] for before, after in zip(places, places[1:])), "no label is over another one, or cut off"
     assert said == ticks[-len(said):] or said == ticks[:len(said)] and len(said) >= len(ticks) - 1, said
 
 
@@ -147,7 +152,10 @@ def test_narrow(place, driver):
     """On a narrow window an event is a card with all of it, and no control is smaller than 24 pixels."""
     driver.execute_cdp_cmd("Emulation.setDeviceMetricsOverride", {"width": 390, "height": 800, "deviceScaleFactor": 1, "mobile": False})
     try:
-        tried = Tried(driver, place.page("narrow", place.file("narrow.json", document()))).ready()
+        log = document()
+        for each in log["events"]:
+            each["reporterchain"] = [{"role": "observer", "reporterId": "s1"}]
+        tried = Tried(driver, place.page("narrow", place.file("narrow.json", log))).ready()
         right = tried.js("return [...document.querySelectorAll('tr.event:first-of-type td')].filter(cell => cell.getClientRects().length).map(cell => Math.ceil(cell.getBoundingClientRect().right))")
         assert len(right) >= 6 and max(right) <= 390, right
         small = ("return [...document.querySelectorAll('button, input, select, summary')].map(each => each.closest('label.switch, label.pick') || each).filter(each => each.getClientRects().length)"
@@ -156,6 +164,32 @@ def test_narrow(place, driver):
             tab.click()
             assert tried.js(small) == [], tab.text
             assert tried.js("return [...document.querySelectorAll('[role=tabpanel]:not([hidden]) table')].filter(each => !each.caption).length") == 0, tab.text
+            assert tried.js("return [...document.querySelectorAll('[role=tabpanel]:not([hidden]) .pairs td')].filter(cell => !cell.dataset.label || cell.getBoundingClientRect().right > 390).length") == 0, tab.text
+        tried.show("complete")
+        labels = ("return [...document.querySelectorAll('#panel-complete tbody tr:first-of-type td')].filter(cell => cell.getClientRects().length)"
+                  ".map(cell => getComputedStyle(cell, '::before').content.slice(1, -1) + ': ' + cell.textContent)")
+        assert tried.js(labels)[:4] == ["Reporter: s1", "Events: 4", "Contradicted: 0", "An hour late, or more: 0"]
+        tried.show("events")
+        tried.one(".opener").click()
+        assert tried.js("return Math.max(...[...document.querySelectorAll('.opened .detail *')].filter(each => !each.closest('svg')).map(each => each.getBoundingClientRect().right))") <= 390
+    finally:
+        driver.execute_cdp_cmd("Emulation.clearDeviceMetricsOverride", {})
+
+
+@pytest.mark.parametrize("width", [390, 1280])
+def test_room(place, driver, width):
+    """Each button is as wide as its words, whatever stands beside it, no view is wider than the window, and each kind of facts has its plural."""
+    driver.execute_cdp_cmd("Emulation.setDeviceMetricsOverride", {"width": width, "height": 800, "deviceScaleFactor": 1, "mobile": False})
+    try:
+        place.file("other.json", {"id": "g", "events": CONTRADICTED})
+        place.file("here.json", document(region="north"))
+        tried = Tried(driver, place.page("room", "--against", "other.json", "here.json")).ready()
+        for tab in tried.all("[role=tab]"):
+            tab.click()
+            narrow = tried.js("return [...document.querySelectorAll('button')].filter(each => each.scrollWidth > each.clientWidth + 1).map(each => each.textContent)")
+            assert narrow == [], tab.text
+            assert tried.js("return document.documentElement.scrollWidth <= innerWidth"), tab.text
+        assert tried.texts(".counts-of tbody th") == ["all facts", "events", "properties"]
     finally:
         driver.execute_cdp_cmd("Emulation.clearDeviceMetricsOverride", {})
 

@@ -379,6 +379,7 @@ def test_two_sites(place, driver, sites_page):
     assert len(tried.all("figure.lacks rect")) == 2
     tried.all(".counts-of button")[2].click()
     assert tried.texts("#panel-sites .where") == ["1\u201320 of 31", "1\u201330 of 30"], tried.texts("#panel-sites .where")
+    assert 0 < tried.js("return document.querySelector('#panel-sites > h3').getBoundingClientRect().top / innerHeight") < 1, "the list that a number leads to is in view"
     tried.open_all()
     tried.is_quiet()
     assert tried.texts("#named") == ["These files: north.json. The other site: south.json"]
@@ -386,6 +387,11 @@ def test_two_sites(place, driver, sites_page):
     assert tried.texts("#together") == ["Together they have 31 conflicts, of which 31 are open; 31 are between them alone:"]
     assert tried.texts("#panel-sites article:first-of-type th[scope=col]") == ["path", "value 1: south.json", "value 2: north.json"]
     assert tried.texts("#panel-sites article:first-of-type mark") == ["failure", "success"]
+    assert "\u2192" in tried.texts("#panel-sites article:first-of-type .about")[0]
+    tried.js("dispatchEvent(new Event('beforeprint')); dispatchEvent(new Event('afterprint'))")
+    rows = dict(zip(tried.texts("#question dt"), tried.texts("#question dd")))
+    assert rows["compared with"] == "south.json"
+    assert rows["of the other site's replica file, 62 facts"] == tried.texts("#other code")[0]
     tried = Tried(driver, place.page("same", "--against", "both", "both")).ready()
     tried.show("sites")
     assert tried.texts("#panel-sites") == ["These files: both. The other site: bothBoth sites hold the same facts."]

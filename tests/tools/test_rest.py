@@ -190,8 +190,8 @@ def arrives(place, name, *events):
 
 
 def waiting():
-    """The name of the file of what waits of the caller's files."""
-    return "waits-%d.cadf" % os.geteuid()
+    """The name of the file of what waits of the messages, whose publisher's number is 15."""
+    return "waits-bus-15.cadf"
 
 
 def test_401_hostile_messages_keep_no_honest_one_out(place):
@@ -213,10 +213,8 @@ def test_401_hostile_messages_keep_no_honest_one_out(place):
 def test_what_waits_waits_once(place):
     """Facts that come again wait once, in one file, and a sender's file of that name is claimed under another."""
     place.takes("--by", "day", "site", place.put("a", *days("2024-01-01", 1)))
-    for name in ("1.jsonl", "2.jsonl", waiting()):
+    for name in ("1.jsonl", "2.jsonl", "waits-bus-15.jsonl"):
         arrives(place, name, *days("2024-02-01", 3, "y"))
-        if name == waiting():
-            place.put("spool/" + name, *days("2024-02-01", 3, "y"))
         assert place.spool("--windows", "0").status == 0
         assert place.file("spool/set-aside/" + waiting()) == atoms_of(*days("2024-02-01", 3, "y"))
     arrives(place, "3.jsonl", event("z", "2024-03-01T00:00:00Z"))
@@ -226,7 +224,7 @@ def test_what_waits_waits_once(place):
     (place.path / "spool" / "set-aside" / waiting()).write_text("x")  # as by an editor
     arrives(place, "4.jsonl", event("z", "2024-03-01T00:00:00Z"))
     assert place.spool("--windows", "0").status == 0
-    assert place.lines()[waiting()][1] == "damaged" and place.file("spool/set-aside/waits-%d-2.cadf" % os.geteuid()) == atoms_of(event("z", "2024-03-01T00:00:00Z"))
+    assert place.lines()[waiting()][1] == "damaged" and place.file("spool/set-aside/waits-bus-15-2.cadf") == atoms_of(event("z", "2024-03-01T00:00:00Z"))
 
 
 def test_a_sender_takes_no_name_of_what_waits(place):
@@ -281,7 +279,7 @@ def test_admit(place):
     assert {name: row[1:3] + row[4:] for name, row in rows.items()} == {
         "cut.json": ["0 lines", "1 bytes", "not JSON"], "odd.jsonl": ["1 lines", rows["odd.jsonl"][2], "not JSON, and no line of a log"],
         waiting(): ["2 facts", rows[waiting()][2], "2 facts wait, of 2 new windows beyond the limits"]}
-    assert len({row[0] for row in rows.values()}) == 1 and list(rows) == [waiting(), "cut.json", "odd.jsonl"]
+    assert rows[waiting()][0] == "bus-15" and rows["cut.json"][0] == rows["odd.jsonl"][0] and list(rows) == [waiting(), "cut.json", "odd.jsonl"]
     shown = place.admit("--lines", "spool", "waits-*")
     assert document(json.loads(shown.output))[1] == atoms_of(*days("2024-02-01", 2)) and shown.status == 0
     assert json.loads(place.admit("--lines", "spool", "odd.jsonl").output)["faults"] == ["not JSON, and no line of a log"]
@@ -291,7 +289,7 @@ def test_admit(place):
     assert list(place.lines()) == ["cut.json"] and (place.path / "spool" / "odd.jsonl").exists()
     assert place.site() == atoms_of(*days("2024-01-01", 1, "before"), *days("2024-02-01", 2))
     assert place.admit("--drop", "spool", "cut.json") == (0, b"", b"") and place.lines() == {}
-    assert sorted(os.listdir(place.path / "spool" / "set-aside")) == [".senders"]
+    assert sorted(os.listdir(place.path / "spool" / "set-aside")) == [".ledgers", ".senders"]
 
 
 def test_admit_into_a_site_that_refuses(place):
@@ -364,15 +362,16 @@ def test_a_star_in_a_name_stands_for_no_other_file(place):
 
 @pytest.mark.parametrize("check, texts", [
     (test_windows_that_are_there_and_the_nearest_to_now, ["key=lambda window: (distance(window, at), window)", "key=lambda window: window"]),
-    (test_windows_that_are_there_and_the_nearest_to_now, ["(is_there and self.bounds.has(part) and not self.is_charged(part))", "False"]),
+    (test_windows_that_are_there_and_the_nearest_to_now, ["(is_there and self.may_be_taken(part) and not self.is_charged(part))", "False"]),
     (test_far_windows_that_are_read_again, ["return self.rereads is not None and is_far(part)", "return self.rereads is not None"]),
     (test_far_windows_that_are_read_again, ["return self.rereads is not None and is_far(part)", "return False"]),
     (test_far_windows_that_are_read_again, ["changed = again & taking.changed.keys()", "changed = again"]),
     (test_bounds_of_time, ["first <= self.not_after", "first < self.not_after - 10 ** 15"]),
-    (test_bounds_of_time, ["(is_there and self.bounds.has(part) and not self.is_charged(part))", "is_there"]),
+    (test_bounds_of_time, ["(is_there and self.may_be_taken(part) and not self.is_charged(part))", "is_there"]),
     (functools.partial(test_senders_take_turns, most="2", each="2"), [
-        "itertools.zip_longest(*(nearest(windows, at)[:own] for windows, own in zip(wanted, each)))", "[nearest(windows, at)[:own] for windows, own in zip(wanted, each)]"]),
-    (functools.partial(test_senders_take_turns, most="3", each="1"), ["nearest(windows, at)[:own]", "nearest(windows, at)"]),
+        "itertools.zip_longest(*(nearest(windows, at)[:own + len(windows) - sum(map(is_far, windows))] for windows, own in zip(wanted, each)))",
+        "[nearest(windows, at)[:own] for windows, own in zip(wanted, each)]"]),
+    (functools.partial(test_senders_take_turns, most="3", each="1"), ["nearest(windows, at)[:own + len(windows) - sum(map(is_far, windows))]", "nearest(windows, at)"]),
     (test_the_rest_is_there_before_the_site, ["zip(self.names, left, senders):\n                if parts:\n                    self.write(name, parts, inputs, own.rulings)\n            yield\n",
                                               "[]:\n                pass\n            yield\n            for name, parts, own in zip(self.names, left, senders):\n"
                                               "                if parts:\n                    self.write(name, parts, inputs, own.rulings)\n"]),

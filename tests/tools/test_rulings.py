@@ -287,7 +287,7 @@ def test_a_scrub_keeps_what_was_seen(sites):
     (test_a_forged_signature_is_none, ["of a changed body"], "found.body() == body and ", ""),
     (test_a_forged_signature_is_none, ["in another name"], '"-I", record.who, ', '"-I", "ann", '),
     (test_who_when_and_why, [False], " or is_of_record(atoms[0]):", ":"),
-    (test_who_when_and_why, [True], 'self.keys.setdefault(part, set()).update(keys_of(index.keys(part)) - several)', "pass"),
+    (test_who_when_and_why, [True], 'own = keys_of(index.keys(part))', "own = frozenset()"),
     (test_made_again, [], "if not known or ", "if "),
     (test_seen, [], "len(standings - cadf_state.seen_rulings(folder))", "0"),
     (test_seen, [], "sorted(rulings), sorted(digests)", "sorted(rulings)"),

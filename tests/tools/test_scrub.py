@@ -137,7 +137,7 @@ def test_files_that_go_meanwhile(scrubs):
 WRONG = {
     "a body that lacks": "DELETE FROM bodies WHERE rowid = (SELECT min(rowid) FROM bodies)",
     "a body of another time": "UPDATE bodies SET second = second + 1 WHERE rowid = 1",
-    "a body of another action": "UPDATE texts SET text = replace(text, 'read', 'reap')",
+    "a body of another action": "UPDATE others_texts SET text = replace(text, 'read', 'reap')",
     "a body that isn't there": "INSERT INTO bodies SELECT window, zeroblob(16), second, nanosecond, initiator, target, others FROM bodies WHERE rowid = 1",
     "an open key that isn't told": "DELETE FROM several", "a place that lacks": "DELETE FROM places", "another place": "UPDATE places SET begin = begin + 1",
     "other bytes": "UPDATE windows SET bytes = bytes + 1", "another root": "UPDATE kept SET value = substr(value, 1, 65) || 'x' || substr(value, 67) WHERE kind = 'roots 1'",
@@ -166,9 +166,9 @@ def test_a_wrong_index_is_told_and_made_anew(scrubs, wrong):
 
 def contents(connection):
     """What an index has, without its numbers."""
-    texts = "(SELECT text FROM texts WHERE id = %s)"
+    texts = "(SELECT text FROM {0}_texts WHERE id = {0})"
     rows = "SELECT name, key, second, nanosecond, %s, %s, %s, bytes FROM bodies JOIN windows ON windows.id = window" % tuple(
-        texts % column for column in ("initiator", "target", "others"))
+        texts.format(column) for column in ("initiator", "target", "others"))
     return [sorted(connection.execute(each)) for each in (rows, "SELECT key FROM several", "SELECT key, digest, begin, length, hash FROM places",
                                                           "SELECT kind, files, value FROM kept WHERE kind = 'roots 1'")]
 

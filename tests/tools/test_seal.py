@@ -31,7 +31,8 @@ ROOT = hashlib.sha256(b"").hexdigest()
 HEAD = 'CADF-SITE-SEAL 1\nL "g"\nB day\n'
 KEYS = hashlib.sha256(b"keys").hexdigest()
 SHARED, DAY, NEXT = ("W %s 1 %s 2 %s\n" % (part, ROOT, KEYS) for part in ("shared", "2024-02-29", "2024-03-01"))
-ONLY_ROOTS = "whether facts were only added, roots don't say"
+FLOOR = "T 2024-03-01\n"
+ONLY_ROOTS = "a seal doesn't say whether facts were only added"
 NO_SEAL, DAMAGED = "no seal of a folder, as `cadf-seal SITE/` writes it", "it is damaged: have it sent again"
 MOST = 2 ** 28  # bytes of memory
 
@@ -202,12 +203,12 @@ def test_compare(seals):
     assert seals.run("--compare", old, "site") == (0, b"", [])
     seals.site.takes(contents(3, 4), dict(contents(), events=[dict(EVENT, id="x", eventTime="2023-12-31T23:59:59Z")]))
     now = seals.kept("now", "site")
-    lines = b"2023-12-31: facts then 0, now 1\n2024-02-29: facts then 2, now 6\n"
+    lines = b"2023-12-31: new, facts now 1\n2024-02-29: facts then 2, now 6\n"
     answer = 5, lines, ["cadf-seal: windows that differ: 2 of 4; " + ONLY_ROOTS]
     assert seals.run("--compare", old, "site/") == seals.run("--compare", old, now) == answer
     assert seals.run("--compare", "-", now, input=(seals.path / old).read_bytes()) == answer
-    lines = b"2023-12-31: facts then 1, now 0\n2024-02-29: facts then 6, now 2\n"
-    assert seals.run("--compare", now, old) == (5, lines, answer[2])
+    lines = b"2023-12-31: gone otherwise, facts then 1\n2024-02-29: facts then 6, now 2\n"
+    assert seals.run("--compare", now, old) == (1, lines, [*answer[2], "cadf-seal: windows that are gone: 1"])
 
 
 def test_compare_of_as_many_facts(seals):
@@ -215,10 +216,62 @@ def test_compare_of_as_many_facts(seals):
     last = NEXT.replace("2024-03-01", "2024-03-02")
     seals.put("old", with_digest((HEAD + SHARED + NEXT + last).encode()))
     seals.put("now", with_digest((HEAD + SHARED.replace("e3", "e4") + DAY + NEXT + last.replace(KEYS, ROOT)).encode()))
-    lines = b"shared: facts then 1, now 1\n2024-02-29: facts then 0, now 1\n2024-03-02: facts then 1, now 1\n"
+    lines = b"shared: facts then 1, now 1\n2024-02-29: new, facts now 1\n2024-03-02: facts then 1, now 1\n"
     said = ["cadf-seal: windows that differ: 3 of 4; " + ONLY_ROOTS]
     assert seals.run("--compare", "old", "now") == (5, lines, said)
-    assert seals.run("--compare", "now", "old") == (5, lines.replace(b"0, now 1", b"1, now 0"), said)
+    assert seals.run("--compare", "now", "old") == (1, lines.replace(b"new, facts now", b"gone otherwise, facts then"), [*said, "cadf-seal: windows that are gone: 1"])
+
+
+def gone(*lines):
+    """A seal with a floor and lines, which says that those with a G went."""
+    return with_digest((HEAD + "T 2024-03-01\n" + "".join(lines)).encode())
+
+
+WENT = DAY.replace("W", "G")
+OTHERWISE = WENT.replace(" 1 ", " 3 ")
+COMPARED = {
+    "as it was sealed": ((HEAD + DAY + NEXT).encode(), gone(WENT, NEXT), b"2024-02-29: gone as it was sealed, facts then 1\n", 1),
+    "with more facts": ((HEAD + DAY + NEXT).encode(), gone(OTHERWISE, NEXT), b"2024-02-29: gone otherwise, facts then 1: 3 when it went\n", 1),
+    "without a trace": ((HEAD + DAY + NEXT).encode(), gone(NEXT), b"2024-02-29: gone otherwise, facts then 1\n", 1),
+    "the trace itself": (gone(WENT, NEXT), gone(NEXT), b"2024-02-29: gone then, now not told, or otherwise\n", 1),
+    "another trace": (gone(WENT, NEXT), gone(OTHERWISE, NEXT), b"2024-02-29: gone then, now not told, or otherwise\n", 1),
+    "it is back": (gone(WENT, NEXT), (HEAD + DAY + NEXT).encode(), b"2024-02-29: gone then, now 1 facts\n", 1),
+    "came and went since": ((HEAD + NEXT).encode(), gone(WENT, NEXT), b"", 0),
+    "the same trace": (gone(WENT, NEXT), gone(WENT, NEXT), b"", 0),
+}
+
+
+@pytest.mark.parametrize("then, now, lines, status", COMPARED.values(), ids=COMPARED)
+def test_compare_of_what_went(seals, then, now, lines, status):
+    """What the site says is no reason to accept it. The auditor's word accepts what is older and gone as it was sealed, and nothing else."""
+    for name, data in (("then", then), ("now", now)):
+        seals.put(name, data if b"\nZ " in data else with_digest(data))
+    found = seals.run("--compare", "then", "now")
+    assert found[:2] == (status, lines) and [line for line in found[2] if "are gone" in line] == (["cadf-seal: windows that are gone: 1" + (
+        "; --kept-from WINDOW says from when on the site has to keep" if b"as it was" in lines else "")] if status else [])
+    for word, lawful in (("2024-03-01", b"as it was" in lines), ("2024-02-29", False)):
+        assert seals.run("--compare", "then", "--kept-from", word, "now")[:2] == (0 if lawful else status, lines)
+    assert seals.run("--compare", "then", "--kept-from", "2024-03", "now") == (1, b"", ["cadf-seal: --kept-from 2024-03: windows are one day each: name such a one"])
+
+
+def test_a_window_that_went_has_its_seal(seals):
+    """It is of what it had: so an archive proves facts under the seal of the site that forgot them, which can't."""
+    seals.site.takes(contents(0, 2, 5))
+    seals.kept("before", "site")
+    old = seals.kept("old", "--window", "2024-02-29", "before")
+    program = os.path.join(os.path.dirname(seals.tool), "cadf-forget")
+    assert ended(program, ["--before", "2024-03-01", "--archive", "archive", "site"], cwd=seals.path, env=seals.environment).status == 0
+    seals.kept("after", "site")
+    kept, went = atoms_of(contents(2, 5)), atoms_of(contents(0))
+    assert (seals.path / "after").read_bytes() == site_seal_of("g", kept, "day", "2024-03-01", went)
+    assert seals.writes("--window", "2024-02-29", "after") == (seals.path / old).read_bytes() == window_seal_of((seals.path / "after").read_bytes(), "2024-02-29")
+    facts = seals.put("facts", json.dumps(contents(0)))
+    proof = seals.kept("proof", "--prove", facts, "archive")
+    assert len(seals.writes("--verify", "after", facts, proof).splitlines()) == len(went)
+    said = "cadf-seal: site: 2024-02-29: it keeps from 2024-03-01 on: an archive of what went proves it, under the site's later seals too"
+    assert seals.run("--prove", facts, "site") == (1, b"", [said])
+    status, lines, _ = seals.run("--compare", "before", "site", "--kept-from", "2024-03-01")
+    assert (status, lines) == (0, b"2024-02-29: gone as it was sealed, facts then %d\n" % len(went))
 
 
 def test_compare_of_others(seals):
@@ -248,6 +301,10 @@ REFUSED = [
     (HEAD.encode() + b"W \xff\n", "line 4: shape"), (HEAD + "W " + "x" * 2 ** 17 + "\n", "line 4: shape"), (HEAD + DAY + "\n", "line 5: shape"),
     (HEAD + NEXT + DAY, "line 5: order"), (HEAD + DAY + DAY, "line 5: order"), (HEAD + DAY + SHARED, "line 5: order"), (HEAD + SHARED + SHARED, "line 5: order"),
     (HEAD + NEXT + DAY.replace(" 1 ", " %d " % 2 ** 64), "line 5: shape"), (HEAD + DAY + NEXT + DAY, "line 6: order"), (HEAD + "Z\n", "digest"), (HEAD + DAY + "Z %s\n" % ROOT, "digest"), (HEAD + "Z" * 2 ** 17 + "\n", "digest"),
+    (HEAD + FLOOR + FLOOR, "line 5: order"), (HEAD + DAY + FLOOR, "line 5: order"), (HEAD + FLOOR.replace("2024-03-01", "shared"), "line 4: shape"), (HEAD + FLOOR.replace("-01", ""), "line 4: shape"),
+    (HEAD + FLOOR.replace("\n", " \n"), "line 4: shape"), (HEAD + DAY.replace("W", "G"), "line 4: shape"), (HEAD + FLOOR + NEXT.replace("W", "G"), "line 5: shape"),
+    (HEAD + FLOOR + SHARED.replace("W", "G"), "line 5: shape"), (HEAD + FLOOR + 2 * DAY.replace("W", "G"), "line 6: order"), (HEAD + FLOOR + NEXT + DAY.replace("W", "G"), "line 6: order"),
+    (HEAD + FLOOR + DAY.replace("W", "G").replace("02-29", "02-28") + DAY.replace("W", "G").replace("02-29", "02-27"), "line 6: order"), (HEAD + FLOOR + DAY.replace("W", "G"), "truncated"),
     (with_digest((HEAD + DAY).encode()) + b"\n", "trailing bytes"), (with_digest((HEAD + DAY).encode())[:-1], "truncated"),
 ]
 
@@ -256,14 +313,14 @@ def read_by_both(data):
     """What the tool's reader and the second implementation say of a file: its refusal, or its log, its unit and its lines."""
     try:
         found = cadf_seals.lines_in(io_of(data), cadf_seals.SiteSeal)
-        parts = {part: (facts, bytes.fromhex(root), keys, bytes.fromhex(key_root)) for part, (facts, root, keys, key_root) in found.parts.items()}
-        own = found.name(), found.unit, parts
+        parts, gone = ({part: (facts, bytes.fromhex(root), keys, bytes.fromhex(key_root)) for part, (facts, root, keys, key_root) in each.items()} for each in (found.parts, found.gone))
+        own = found.name(), found.unit, parts, found.floor, gone
         assert found.bytes() == data
     except cadf_seals.Refused as fault:
         own = str(fault)
     try:
         log, lines = read_site_seal(data)
-        other = log, lines.unit, lines.parts
+        other = log, lines.unit, lines.parts, lines.floor, lines.gone
     except Fault as fault:
         other = fault.said
     assert own == other, data
@@ -285,12 +342,12 @@ def test_refused(text, refusal):
 
 def test_greatest_count():
     data, greatest = with_digest((HEAD + DAY.replace(" 1 ", " %d " % (2 ** 64 - 1)).replace(" 2 ", " %d " % (2 ** 64 - 1))).encode()), 2 ** 64 - 1
-    assert read_by_both(data) == ("g", "day", {"2024-02-29": (greatest, hashlib.sha256(b"").digest(), greatest, hashlib.sha256(b"keys").digest())})
+    assert read_by_both(data)[:3] == ("g", "day", {"2024-02-29": (greatest, hashlib.sha256(b"").digest(), greatest, hashlib.sha256(b"keys").digest())})
 
 
 def test_each_bit_and_each_prefix():
     """A seal with a bit turned, cut anywhere, or with a line left out, twice or elsewhere, is refused by both alike."""
-    seal = with_digest((HEAD + SHARED + DAY + NEXT).encode())
+    seal = with_digest((HEAD + FLOOR + DAY.replace("W", "G").replace("02-29", "02-28") + SHARED + DAY + NEXT).encode())
     lines = seal.splitlines(True)
     wrong = [seal[:place] for place in range(len(seal))]
     wrong += [seal[:place] + bytes([seal[place] ^ 1 << bit]) + seal[place + 1:] for place in range(len(seal)) for bit in range(8)]
@@ -301,7 +358,8 @@ def test_each_bit_and_each_prefix():
         wrong.append(b"".join(lines[:place] + lines[place:place + 1] + lines[place:]))
     for data in wrong:
         assert isinstance(read_by_both(data), str)
-    assert read_by_both(seal)[:2] == ("g", "day")
+    assert read_by_both(seal)[:2] == ("g", "day") and read_by_both(seal)[3:] == ("2024-03-01", {"2024-02-28": (
+        1, hashlib.sha256(b"").digest(), 2, hashlib.sha256(b"keys").digest())})
 
 
 def test_too_large(monkeypatch):
@@ -467,16 +525,20 @@ def test_roots_of_another_tree_serve_nobody(seals):
 # ---- Copies that do wrong
 
 @pytest.mark.parametrize("check, right, wrong", [
-    (test_seal_of_a_folder, "sealed(list(files.values())) if files", "sealed(list(files.values())[:1]) if files"),
+    (test_seal_of_a_folder, "str(sealed(own) if own", "str(sealed(own[:1]) if own"),
     (test_seal_of_a_folder, "itertools.starmap(self.lines, self.parts.items())", "itertools.starmap(self.lines, sorted(self.parts.items()))"),
     (test_a_fact_in_another_window_is_refused, "check_part(index, part, files) if files else \"\"", "\"\""),
-    (test_windows, "*self.parts.get(part, NOTHING)))", "*self.parts.get(part, NOTHING)[::-1]))"),
-    (test_windows, "*self.parts.get(part, NOTHING)))", "*2 * self.parts.get(part, NOTHING)[:2]))"),
+    (test_windows, "(self.log, *roots)", "(self.log, *roots[::-1])"),
+    (test_windows, "(self.log, *roots)", "(self.log, *2 * roots[:2])"),
+    (test_a_window_that_went_has_its_seal, "or self.gone.get(part, NOTHING)", "or NOTHING"),
+    (functools.partial(test_compare_of_what_went, **dict(zip(("then", "now", "lines", "status"), COMPARED["with more facts"]))), "True, went == old)", "True, went is not None)"),
+    (functools.partial(test_compare_of_what_went, **dict(zip(("then", "now", "lines", "status"), COMPARED["as it was sealed"]))), " and each.part < options.kept_from", ""),
+    (functools.partial(test_compare_of_what_went, **dict(zip(("then", "now", "lines", "status"), COMPARED["the trace itself"]))), "*then.parts, *then.gone, *now.parts", "*then.parts, *now.parts"),
     (test_windows, "B (%s)\" % \"|\".join(UNITS)", "B (%s)\" % \"|\".join([*UNITS][::2])"),
-    (test_compare_of_as_many_facts, "sorted({*then.parts, *now.parts} - damaged.keys(), key=order)", "sorted(now.parts, key=order)"),
-    (test_compare_of_as_many_facts, "if then.parts.get(part) != now.parts.get(part)]", "if then.parts.get(part, NOTHING)[0] != now.parts.get(part, NOTHING)[0]]"),
-    (test_compare_of_as_many_facts, "sorted({*then.parts, *now.parts} - damaged.keys(), key=order)", "sorted({*then.parts, *now.parts})"),
-    (test_compare_of_as_many_facts, "or (DIFFERS if differing else DONE)", "or DONE"),
+    (test_compare_of_as_many_facts, "sorted({*then.parts, *then.gone, *now.parts} - but, key=order)", "sorted(now.parts, key=order)"),
+    (test_compare_of_as_many_facts, "elif new != old:", "elif new.facts != old.facts:"),
+    (test_compare_of_as_many_facts, "sorted({*then.parts, *then.gone, *now.parts} - but, key=order)", "sorted({*then.parts, *then.gone, *now.parts} - but)"),
+    (test_compare_of_as_many_facts, "or (REFUSED if lost else DIFFERS if others else DONE)", "or DONE"),
     (test_compare_of_others, "if now.log != then.log:", "if False:"),
     (test_compare_of_others, "if now.unit != then.unit:", "if False:"),
     (functools.partial(test_a_root_vouches_for_no_file_that_is_another, change="size"), "size_of(files) == size and ", ""),

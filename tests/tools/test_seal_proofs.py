@@ -18,6 +18,8 @@ from tests.reference.seal_files import proof_of
 from tests.reference.site_proof_files import read_site_proof, site_proof_of, site_verified
 from tests.reference.site_seal_files import read_site_seal, site_seal_of
 from tests.reference.split_files import parts_of
+from tests.tables.proof_rows import WRONG
+from tests.tables.texts import replica
 from tests.tools.copies import is_caught
 from tests.tools.test_seal import DAMAGED, EVENT, HEAD, MOST, NO_SEAL, ROOT, Seals, cadf_seals, command, io_of, with_digest
 from tests.tools.test_site_folders import DAYS, atoms_of, contents
@@ -28,6 +30,9 @@ NOT_HELD = contents(6, 8, name="m", resources=[{"id": "r"}])
 LATER = {"id": "g", "events": [dict(EVENT, id="e0", eventTime="2024-03-05T00:00:00Z")]}  # of a window that isn't there
 PROOF_HEAD = HEAD.replace("SEAL", "PROOF")
 OTHER_PROOF = "no proof of a folder, as `cadf-seal --prove FACTS SITE/` writes it"
+FOR_OTHERS = ": it was made for other facts: have a proof made of just these"
+OTHER_TIME = ": seal and proof are of other facts: have both made of the site as it was at one time"
+CHANGED = ": no site has such a proof, so it was changed: have it made again"
 
 
 class Proofs(Seals):
@@ -187,9 +192,9 @@ def test_a_fact_is_looked_for_in_its_window(proofs):
     for other in sorted({*held, "2024-03-05"} - {own}):
         lie = proof_of("g", facts, held.get(other, set()))
         assert proofs.says(value, with_parts((other, lie)), "--absent") == (1, b"", ["cadf-seal: proof: %s" % (
-            "shared: not needed" if other == "shared" else own + ": not shown")])
+            "shared: not needed" if other == "shared" else own + ": not shown") + FOR_OTHERS])
         both = sorted([(own, proof_of("g", facts, held[own])), (other, lie)], key=lambda part: (part[0] != "shared", part[0]))
-        assert proofs.says(value, with_parts(*both))[1:] == (b"", ["cadf-seal: proof: %s: not needed" % other])
+        assert proofs.says(value, with_parts(*both))[1:] == (b"", ["cadf-seal: proof: %s: not needed%s" % (other, FOR_OTHERS)])
         status, output, said = proofs.says(value, with_parts((own, lie)), "--absent")
         assert (status, output) == (1, b"") and re.fullmatch("cadf-seal: %s of proof: other (count|root)(: .*)?" % own, said[0])
 
@@ -200,10 +205,10 @@ def test_a_proof_in_part(proofs):
     names = list(parts)
     for left_out in names:
         proof = with_parts(*((name, parts[name]) for name in names if name != left_out))
-        assert proofs.says(ASKED, proof) == (1, b"", ["cadf-seal: proof: %s: not shown" % left_out])
+        assert proofs.says(ASKED, proof) == (1, b"", ["cadf-seal: proof: %s: not shown%s" % (left_out, FOR_OTHERS)])
         assert wanted(ASKED, proof, "present") == "%s: not shown" % left_out
     more = with_parts(*parts.items(), ("2024-03-05", proof_of("g", [], set())))
-    assert proofs.says(ASKED, more) == (1, b"", ["cadf-seal: proof: 2024-03-05: not needed"])
+    assert proofs.says(ASKED, more) == (1, b"", ["cadf-seal: proof: 2024-03-05: not needed" + FOR_OTHERS])
 
 
 def test_another_seal(proofs):
@@ -287,6 +292,7 @@ def test_proofs_in_it_are_judged(proofs):
         damaged = with_parts(*((name, data.replace(right, wrong, 1)) for name, data in parts.items()))
         status, output, lines = proofs.says(ASKED, damaged)
         assert (status, output) == (1, b"") and lines[0].startswith("cadf-seal: shared of proof: " + said), lines
+        assert said == "version" or lines[0].endswith(": " + DAMAGED)
 
 
 def test_what_is_said_of_a_refusal(proofs):
@@ -297,6 +303,19 @@ def test_what_is_said_of_a_refusal(proofs):
     assert proofs.says(ASKED, proof, seal="facts")[2] == ["cadf-seal: facts: truncated: " + NO_SEAL]
     status, output, said = proofs.run("--prove", "seal", "site")
     assert (status, output) == (1, b"") and said[0].startswith("cadf-seal: seal: the seal of a folder, which holds no facts")
+
+
+@pytest.mark.parametrize("fault, said", [
+    ("OtherCount", "proof: other count" + OTHER_TIME), ("OtherRoot", "proof: other root" + OTHER_TIME), ("NoTree", "proof: no tree" + CHANGED),
+    ("Order", "proof: order" + CHANGED), ("NeighbourHidden", "proof: neighbour hidden" + CHANGED), ("NotNeeded", "proof: not needed" + FOR_OTHERS),
+    ("NotShown", "facts: fact 1: not shown" + FOR_OTHERS), ("Absent", "facts: fact 1: absent"), ("Present", "facts: fact 1: present")])
+def test_what_to_do_next(tmp_path, fault, said):
+    """Each refusal of a proof that is none, or another one, says it; one that is right, and shows something else, needs nothing."""
+    seals = Seals(tmp_path)
+    seal, proof, word, facts, _ = next(row for row in WRONG if row[-1] in (fault, fault + " 1"))
+    for name, text in (("seal", seal), ("facts", replica(*facts)), ("proof", proof)):
+        seals.put(name, text)
+    assert seals.run("--verify", *["--absent"] * (word == "absent"), "seal", "facts", "proof") == (1, b"", ["cadf-seal: " + said])
 
 
 def test_a_line_without_an_end_takes_no_memory(tmp_path):

@@ -782,7 +782,7 @@ REMOVES_ALL = ("now = self.folder.index()\n                for name in self.made
     (test_a_take_that_fails_removes_nothing_that_it_has_not_made, *REMOVES_ALL),
     (test_files_stay_until_the_new_site_is_on_the_disk, *REMOVES_ALL),
     (test_a_lost_index_loses_no_window, "if self.index is None and set(left) - {WORKING}:", "if False:"),
-    (test_strangers_are_named_and_passed_over, 'WINDOW = r"[0-9]{4}', 'WINDOW = r"[0-9]{4}|\\d{7}'),
+    (test_strangers_are_named_and_passed_over, 'WINDOW, SHARED = r"[0-9]{4}', 'WINDOW, SHARED = r"[0-9]{4}|\\d{7}'),
     (test_strangers_are_named_and_passed_over, 'not file.name.startswith(".") and', ""),
 ])
 def test_a_wrong_version_is_caught(tmp_path, check, right, wrong):

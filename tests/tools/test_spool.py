@@ -514,7 +514,7 @@ def test_full_spool(spools):
                  cwd=folder, env={**os.environ, "CADF": spools.cadf})
     if b"unshare:" in done.error or b"mount:" in done.error:
         pytest.skip("unshare: no file system of one's own can be mounted")
-    waits = "a.jsonl: waits: cadf-from-openstack: spool/taking/.work/0-0001.json: write fault: No space left on device"
+    waits = "a.jsonl: waits: cadf-from-openstack: spool/taking/.work/0-52-0001.json: write fault: No space left on device"
     assert (done.status, done.error.decode().splitlines()) == (3, ["cadf-spool: " + waits, "cadf-spool: taken 0, set aside 0, waiting 1"])
 
 

@@ -22,7 +22,8 @@ def groups(program, folder, sizes):
         with open(folder / name, "wb") as file:
             file.truncate(size)
     taken = []
-    run = types.SimpleNamespace(prepared=lambda _, name: [name], take=lambda group: taken.append(len(group)), reached=lambda _: None, say_left=lambda *_: None)
+    run = types.SimpleNamespace(prepared=lambda _, name: [name], take=lambda group: taken.append(len(group)), reached=lambda _: None, may_be_dear=lambda _: False,
+                                left=None, say_left=lambda *_: None)
     with program.open_descriptor(os.open(folder, os.O_RDONLY)) as taking:
         run.spool = types.SimpleNamespace(claimed=lambda: names, user=lambda _: 0, taking=taking)
         program.Run.take_all(run)
@@ -44,4 +45,4 @@ def test_in_part(cadf, tmp_path):
     done = subprocess.run([tool("cadf-spool"), "--unchanged", "0", "--log", "g", tmp_path / "site.cadf", spool],
                           env={**os.environ, "CADF": cadf}, stderr=subprocess.PIPE)
     assert done.returncode == 0 and b"taken 1, set aside 1, waiting 0" in done.stderr
-    assert os.listdir(spool / "taken") == ["lines.jsonl"] and sorted(os.listdir(spool / "set-aside")) == [".senders", "lines.jsonl"]
+    assert os.listdir(spool / "taken") == ["lines.jsonl"] and sorted(os.listdir(spool / "set-aside")) == [".ledgers", ".senders", "lines.jsonl"]

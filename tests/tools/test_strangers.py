@@ -105,12 +105,13 @@ def test_the_honest_event_is_in_the_site_within_one_run(place, way, stranger):
     assert before | atoms_of(HONEST) <= place.site(), done
 
 
+@pytest.mark.parametrize("stranger", ["the honest event's own day", "another body of the base event", "days of long ago"])
 @pytest.mark.parametrize("way", WAYS)
-def test_each_way_leaves_what_a_take_by_hand_leaves(cadf, place, tmp_path, way):
+def test_each_way_leaves_what_a_take_by_hand_leaves(cadf, place, tmp_path, way, stranger):
     """In facts, files and bytes: so what is tried of a take by hand, as what later calls cost (test_costs), holds of each way."""
     hand = Place(cadf, tmp_path / "hand")
     hand.takes("--by=day", "site/", hand.put("base.json", BASE))
-    sent, found = STRANGERS["the honest event's own day"], []
+    sent, found = STRANGERS[stranger], []
     for each, do in (hand, by_hand), (place, WAYS[way]):
         do(each, sent)
         names = [line for line in (each.path / "site" / "site").read_text().splitlines() if line.startswith("F ")]

@@ -257,7 +257,7 @@ def test_conflicts_and_metrics(sites):
     answer = sites.sync("--conflicts", "--metrics=m.prom", "here.cadf", "there.cadf")
     assert answer.status == 5 and answer.output.endswith(b"; 1 open conflicts\n"), answer
     assert numbers(sites.path / "m.prom", '{tool="cadf-sync",site="here.cadf",peer="there.cadf"}') == {
-        "facts_taken_total": 2, "facts_lacked_by_peer": 5, "open_conflicts": 1, "largest_window_bytes": len(file_of("g", facts(1, 2) | other))}
+        "facts_taken_total": 2, "facts_lacked_by_peer": 5, "windows_not_kept_by_peer": 0, "open_conflicts": 1, "largest_window_bytes": len(file_of("g", facts(1, 2) | other))}
     text = (sites.path / "m.prom").read_text()
     assert sites.sync("--metrics=m.prom", "here.cadf", "none/none.cadf").status != 0
     assert (sites.path / "m.prom").read_text() == text and sorted(os.listdir(sites.path)) == sorted(
@@ -760,7 +760,7 @@ def test_a_caller_without_an_end(sites):
 @pytest.mark.parametrize("wrong", ["{}['x']", "int('x')", "[][0]", "None.digests", "(lambda n: n(n))(lambda n: n(n))"])
 def test_whatever_the_serving_end_meets_is_told(sites, wrong):
     """A fault of its own program too ends the exchange by a line that says so, and not by a connection that is gone."""
-    sites.tools = copied(str(sites.path / "wrong"), *TRIED, "        found = self.end.digests(self.since)\n", "        found = %s\n" % wrong)
+    sites.tools = copied(str(sites.path / "wrong"), *TRIED, "        found = self.end.digests(self.since, self.kept_there)\n", "        found = %s\n" % wrong)
     sites.put("here.cadf", facts(1))
     answer = sites.served(hello() + message(b"list"))
     assert (answer.status, answer.error) == (3, b"") and answer.output.startswith(FIRST.replace(b"60", b"20") + b"fault "), answer
@@ -1180,7 +1180,7 @@ def test_metrics_of_folders(folders):
     for there in (4, 0):
         folders.equal("--metrics=m.prom", "here/", "there/", tells=tells)
         assert numbers(folders.path / "m.prom", '{tool="cadf-sync",site="here/",peer="there/"}') == {
-            "facts_taken_total": 5, "facts_lacked_by_peer": there, "open_conflicts": 2, "unseen_rulings": 1, "largest_window_bytes": largest}
+            "facts_taken_total": 5, "facts_lacked_by_peer": there, "windows_not_kept_by_peer": 0, "open_conflicts": 2, "unseen_rulings": 1, "largest_window_bytes": largest}
     folders.put("more.cadf", facts(4))
     folders.takes("there/", ["more.cadf"])
     folders.equal("--metrics=m.prom", "here/", "there/", tells=tells)
@@ -1753,7 +1753,7 @@ WRONG_OF_FOLDERS = [
     ("parts_in(unit, log, those)).keys() - {label}", "{}).keys() - own.keys()", test_two_windows_that_are_swapped),
     ("label in found and found[label] == last_digest(those[0].file):", "label in found:", test_two_windows_that_are_swapped),
     ("label in found and found[label] == last_digest(those[0].file):", "found.get(label) == last_digest(those[0].file):", test_two_windows_that_are_swapped),
-    ("self.welcome_in(self.within_limit(items, peer), peer)", "self.welcome_in(items, peer)", test_a_caller_that_sends_more_windows_than_it_may),
+    ("self.welcome_in(self.within_limit(self.kept_in(items, peer), peer), peer)", "self.welcome_in(items, peer)", test_a_caller_that_sends_more_windows_than_it_may),
 ]
 
 

@@ -436,7 +436,7 @@ def test_spool_keeps_what_begins_many_windows(sites):
 
 
 @pytest.mark.parametrize("check, right, wrong", [
-    (test_agree_reads_windows_that_differ, "made_of_parts([each.site for each in sides], None,", "made_of_parts([each.site for each in sides], sorted(first.index.parts())[1:],"),
+    (test_agree_reads_windows_that_differ, "made_of_parts([each.site for each in sides], parts,", "made_of_parts([each.site for each in sides], sorted(first.index.parts())[1:],"),
     (test_agree_reads_windows_that_differ, "rows[0][0] is not None and rows[0][0] == rows[1][0]", "True"),
     (test_agree_of_windows_of_several_files, "[*site.inputs, sketch.input], len(site.inputs))", "[site.inputs[0], sketch.input])"),
     (test_agree_keeps_digests_of_windows, "rows[0][0] is not None and rows[0][0] == rows[1][0]", "False"),
