@@ -90,13 +90,11 @@ def test_commands(run, prefix):
 
 @pytest.mark.parametrize("tool", TOOLS)
 def test_tool(run, prefix, tool):
-    """It runs, a guide names it, the command's page does, and its own page has an item for each of its options."""
+    """It runs, and its page has an item for each of its options."""
     done, manual = run(tool, "--help"), page_of(prefix, tool)
     assert done.status == 0
     assert set(re.findall(r"(?m)^  (?:-\w, )?(--[a-z-]+)", done.output.decode())) == set(re.findall(r"\.TP\n\.B (?:-\w, )?(--[a-z-]+)", manual))
     assert re.match(r'\.TH %s 1 "[\d-]+" "cadf [\d.]+" "User Commands"\n\.SH NAME\n%s - [a-z]' % (tool.upper(), tool), manual)
-    assert "\n.TP\n.BR %s (1)\n" % tool in page_of(prefix)
-    assert any(tool in text_of("docs", name) for name in os.listdir(os.path.join(TOP, "docs")) if name.endswith(".md"))
 
 
 def test_links(prefix):

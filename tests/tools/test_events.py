@@ -114,7 +114,7 @@ def test_file_and_folder_show_the_same(cadf, tmp_path, seed):
     ("opened(windows.ruled(window))", "opened([])"),
     ("at, bodies, is_first = map(int, numbers)", "at, bodies, is_first = *map(int, numbers[:2]), 0"),
     ("self.of([*facts, *rulings])", "self.of([*facts])"),
-    (", *(self.of_facts(name, inputs) for name in windows.facts),", ","),
+    (", *(self.of_facts(names, inputs) for names in windows.facts),", ","),
     ("utc(limits.until - 1)[:length]", "utc(limits.until - 1)[:length - 1]"),
     ("            if len(parts) > 1:", "            if len(parts) > 2:"),
     ("    return at, identifier, line, bodies", '    return event["eventTime"], identifier, line, bodies'),

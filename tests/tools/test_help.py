@@ -1,11 +1,11 @@
-"""What each tool prints for --help: two calls that its own parser takes."""
+"""What each tool prints for --help: two calls that its own parser takes; and which pages name it."""
 import os
 import re
 import shlex
 
 import pytest
 
-from tests import TOP
+from tests import TOP, text_of
 from tests.tools.programs import loaded, tool
 
 NAMES = sorted(os.listdir(os.path.join(TOP, "tools")))
@@ -49,3 +49,10 @@ def test_examples(name, monkeypatch):
 def test_an_option_that_is_not_there(monkeypatch, capsys):
     assert refused(loaded(tool("cadf-which")), ["cadf-which", "--logs", "audit", "north/"], monkeypatch) == 2
     assert "--logs" in capsys.readouterr().err
+
+
+@pytest.mark.parametrize("name", NAMES)
+def test_pages_name_it(name):
+    """A guide does, and the list of tools in the command's page."""
+    assert "\n.TP\n.BR %s (1)\n" % name in text_of("share/man/man1/cadf.1").replace("\\-", "-")
+    assert any(name in text_of("docs", page) for page in os.listdir(os.path.join(TOP, "docs")) if page.endswith(".md"))
