@@ -374,7 +374,7 @@ ANY_WINDOW = """    (window, shown), = found.parts.items()
     (test_others, "if proof.log != seal.log:", "if False:"),
     (test_others, "if proof.unit != seal.unit:", "if False:"),
     (test_facts_of_each_kind_of_file, '"--log=" + log], [facts])', '], [facts])'),
-    (test_a_site_that_is_a_file, "if inputs[0].first(len(OF_A_FILE)) == OF_A_FILE:", "if False:"),
+    (test_a_site_that_is_a_file, "return seal.first(len(OF_A_FILE)) == OF_A_FILE", "return False"),
 ])
 def test_a_wrong_version_is_caught(tmp_path, check, right, wrong):
     is_caught(tmp_path, (right, wrong), check, functools.partial(Proofs, tmp_path))
