@@ -19,7 +19,7 @@ import tempfile
 from tests import TOP, text_of
 
 BUILT = os.path.join(TOP, "crates", "cadf", "out")
-NOT_EVERYWHERE = ("jq", "ssh-keygen")
+NOT_EVERYWHERE = ("jq", "openssl", "ssh-keygen")
 
 
 class Differs(AssertionError):
