@@ -11,8 +11,6 @@ USE = re.compile(r"use Rattle\.[\w.+]+(?:\.\{[^}]*\}|\s+as\s+\w+)")
 COMMENT = re.compile(r"--.*")
 WORD = re.compile(r"[^\s(){}\[\],;:.λ]+")
 DECLARED = re.compile(r"(?m)^(?:abbrev |unfoldable )?(?:pub )?([^\s(){}\[\],;:.]+) : ")
-# Those that go when their crate is next changed, since all above it is proved again then.
-LEFT = [("crates/cadf_tool/proofs/SealedGrowth.antt", "is_three"), ("crates/cadf_tool/proofs/SealedGrowth.antt", "others_count")]
 GENERATED = ("Answers.antt", "Goals.antt", "Invariants.antt", "Lib.antt")  # what the prover looks up by its place
 
 
@@ -46,7 +44,7 @@ def uncited(texts):
 
 
 def test_each_lemma_is_cited():
-    assert list(uncited(sources())) == LEFT
+    assert list(uncited(sources())) == []
 
 
 def test_one_that_is_not_is_named():

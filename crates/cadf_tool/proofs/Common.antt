@@ -127,7 +127,7 @@ pub use Rattle.cadf_tool.specs.declared.join_state.JoinState.TheVariants.{Other,
 pub use Rattle.cadf_tool.specs.declared.request.Request.{Request}
 pub use Rattle.cadf_tool.specs.laws.Engines.{IsOfReplica, of_inventory, of_replica, of_ruled}
 pub use Rattle.sha2.specs.Sha256.{sha256}
-pub use Rattle.std.proofs.Common.{Bool, Contains, Err, Global, IfErr, IfOk, IfSome, IsErrAnd, List, MatchResult, None, Ok, OnOk, Option, Result, Some, String, [], ap, append-nil, arith, codes, cond, drop, encode_utf8, false, get_or, if◌then◌else◌, inl, inr, length, length-append, length-take, map, min, nat_lt, refl, rules, set, slice_get, string_bytes, subst, suc, sym, take, true, true≢false, unwrap_or, zero, ℕ, ◌++◌, ◌+◌, ◌-◌, ◌<◌, ◌↔◌, ◌∙◌, ◌∷◌, ◌≡◌, ◌≢◌, ◌≤◌, ◌⊎◌}
+pub use Rattle.std.proofs.Common.{Bool, Contains, Err, Global, IfErr, IfOk, IfSome, IsErrAnd, List, MatchResult, None, Ok, OnOk, Option, Result, Some, String, [], ap, append-nil, arith, codes, cond, drop, encode_utf8, false, get_or, inl, inr, length, length-append, length-take, map, min, nat_lt, refl, rules, set, slice_get, string_bytes, subst, suc, sym, take, true, true≢false, unwrap_or, zero, ℕ, ◌++◌, ◌+◌, ◌-◌, ◌<◌, ◌↔◌, ◌∙◌, ◌∷◌, ◌≡◌, ◌≢◌, ◌≤◌, ◌⊎◌}
 pub use Rattle.std.proofs.KnownBytes.{Consumes-trans, Consumes-whole}
 pub use Rattle.std.proofs.lemmas.Bool.{cases_lt}
 pub use Rattle.std.proofs.lemmas.Grind.{common_steps, flat_map-append}

@@ -1,5 +1,5 @@
 -- Two seals and a proof are read, and an erased list if there is one, and the line on them is told.
-use Rattle.cadf_tool.proofs.Common.{◌≡◌, ◌≤◌, ◌-◌, ℕ, Bool, true, false, if◌then◌else◌, List, [], ◌∷◌, length, map, get_or, set, Result, Ok, Err, Option, None, Some, IsErrAnd, refl, sym, ap, ◌∙◌, subst, arith, rules, true≢false, Sink, Text, ToolFault, FaultStage, Reading, Working, Writing, OutOfMemoryStage, fault_stage, SourceState, ListedModel, ProofModel, SealModel, seal_spec, proof_spec, erased_spec, list_if, three, both, with_number, IsExpected, IsFirstFault, IsReadAs, IsReadWithin, IsRun, IsToldBy, IsUnread, IsValueOf, Sources, growth_line, GrowthFaultIs, grown, GrowthFault, Proof, Gone, of_growth, of_grown, IsWorked}
+use Rattle.cadf_tool.proofs.Common.{◌≡◌, ℕ, Bool, true, false, List, [], ◌∷◌, length, map, get_or, set, Result, Ok, Err, Option, None, Some, IsErrAnd, refl, sym, ap, subst, arith, true≢false, Sink, Text, ToolFault, FaultStage, Reading, Working, Writing, OutOfMemoryStage, fault_stage, SourceState, ListedModel, ProofModel, SealModel, seal_spec, proof_spec, erased_spec, list_if, three, both, with_number, IsExpected, IsFirstFault, IsReadAs, IsReadWithin, IsRun, IsToldBy, IsUnread, IsValueOf, Sources, growth_line, GrowthFaultIs, grown, GrowthFault, Proof, Gone, of_growth, of_grown, IsWorked}
 use Rattle.cadf_evidence.specs.declared.growth.GrowthFault.TheVariants.{OtherLog, Memory}
 use Rattle.cadf_tool.proofs.Runs.{AreRead, AreStopped, AreUntouched, both_read, first_stopped, second_stopped, stopped, worked_run}
 
@@ -55,14 +55,6 @@ module _ {S : Type 0} (see : S → SourceState) where
       at OutOfMemoryStage h = h
 
 -- ---- the run
-
-pub is_three : (b : Bool) (n : ℕ) → n ≡ (if b then 4 else 3) → 3 ≤ n
-is_three true n e = omega (arith, e)
-is_three false n e = omega (arith, e)
-
-pub others_count : (b : Bool) (n k : ℕ) → n ≡ (if b then 4 else 3) → k ≡ n - 3 → b ≡ true → k ≡ 1
-others_count true n k e f is = omega (arith, e, f)
-others_count false n k e f is = absurd (true≢false (sym is))
 
 module _ (b : Bool) (os ns ps qs : List SourceState) where
   sealed_unfailed : (v : SealModel × (SealModel × ProofModel)) → (three seal_spec seal_spec proof_spec os ns).are v
