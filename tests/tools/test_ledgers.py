@@ -11,6 +11,7 @@ import json
 import os
 import sys
 import time
+import types
 
 import pytest
 
@@ -90,6 +91,22 @@ def users(text, monkeypatch):
     monkeypatch.setattr("builtins.open", lambda name, *words, **options: io.StringIO(text) if name == "/etc/subuid" else right(name, *words, **options))
 
 
+@contextlib.contextmanager
+def without_blocks():
+    """Has the system tell of no blocks of files in an open folder, as file systems do that allot them later, or elsewhere."""
+    def told(path, **options):
+        found = right(path, **options)
+        names = [name for name in dir(found) if name.startswith("st_")] if "dir_fd" in options else []
+        return types.SimpleNamespace(**{name: getattr(found, name) * (name != "st_blocks") for name in names}) if names else found
+
+    right = os.stat
+    os.stat = told
+    try:
+        yield
+    finally:
+        os.stat = right
+
+
 # ---- The ledgers
 
 def test_levels(tmp_path):
@@ -146,6 +163,23 @@ def test_bytes_of_a_day(place):
     assert place.run_once(bytes=2 ** 20)[0] == left
     place.a_day_later()
     assert place.run_once(bytes=2 ** 20)[0] == [] and place.holds() == atoms_of(*(event("e%d" % number, "2024-03-01T12:00:00Z") for number in range(1, 4)))
+
+
+def test_bytes_of_a_day_of_any_file_system(place):
+    with without_blocks():
+        test_bytes_of_a_day(place)
+
+
+def test_a_sparse_file_costs_what_is_written_of_it(place):
+    """Holes stay holes in the copy, which counts as the blocks that are none: the next run takes what waits."""
+    path = os.path.join(place.spool, "0.json")
+    put(path, b"{")
+    os.truncate(path, 2 ** 24)
+    place.send("1.json", event("e", "2024-03-01T12:00:00Z"))
+    with without_blocks():
+        assert place.run_once(bytes=2 ** 20)[0] == ["1.json"]  # as long as nobody has looked, the other may be what its size says
+        assert place.run_once(bytes=2 ** 20)[0] == [] and place.holds() == atoms_of(event("e", "2024-03-01T12:00:00Z"))
+    assert "0.json" in os.listdir(os.path.join(place.spool, "set-aside"))
 
 
 def test_a_file_of_more_than_a_day(place):
@@ -389,27 +423,32 @@ def test_a_publisher_that_costs_much_waits_alone(bus):
     first, more = [[event("%s%d" % (key, number), "2024-03-01T12:00:00Z") for number in range(300)] for key in "ab"]
     quiet, nobody = event("quiet", "2024-03-01T12:00:00Z"), event("nobody", "2024-03-01T12:00:00Z")
     bus.lines("1.jsonl", published(LOUD, *first))
-    files, said = bus.run_once(bytes=12500)
+    files, said = bus.run_once(bytes=5000)
     assert bus.holds() == atoms_of(*first) and sorted(files) == ["taken/1.jsonl"]
     bus.lines("2.jsonl", published(LOUD, *more[:9]) + published(QUIET, quiet) + published(LOUD, *more[9:]) + published(None, nobody))
     own = "bus-%d.json" % number_of(LOUD)
     for _ in range(2):
-        files, said = bus.run_once(bytes=12500)
+        files, said = bus.run_once(bytes=5000)
         assert bus.holds() == atoms_of(*first, quiet, nobody) and sorted(files) == ["taken/1.jsonl", "taken/2.jsonl", "taking/" + own]
         assert "bus-%d: 1 files stay in taking/: more than --sender-bytes a day" % number_of(LOUD) in said
         assert os.stat(os.path.join(bus.spool, "taking", own)).st_mode & 0o777 == 0o600
     for _ in range(20):
         bus.a_day_later()
-        files, _ = bus.run_once(bytes=12500)
+        files, _ = bus.run_once(bytes=5000)
     assert bus.holds() == atoms_of(*first, *more, quiet, nobody) and sorted(files) == ["taken/1.jsonl", "taken/2.jsonl", "taken/" + own]
+
+
+def test_a_publisher_that_costs_much_on_any_file_system(bus):
+    with without_blocks():
+        test_a_publisher_that_costs_much_waits_alone(bus)
 
 
 def test_a_message_of_one_who_waits_alone(bus):
     """A file of which all waits is taken, so that it isn't read again."""
     bus.lines("1.jsonl", published(LOUD, *(event("a%d" % number, "2024-03-01T12:00:00Z") for number in range(300))))
-    bus.run_once(bytes=12500)
+    bus.run_once(bytes=5000)
     bus.lines("2.jsonl", published(LOUD, event("b", "2024-03-01T12:00:00Z")))
-    files, _ = bus.run_once(bytes=12500)
+    files, _ = bus.run_once(bytes=5000)
     assert sorted(files) == ["taken/1.jsonl", "taken/2.jsonl", "taking/bus-%d.json" % number_of(LOUD)]
 
 
@@ -481,6 +520,8 @@ def test_files_that_are_claimed_wait_if_their_sender_has_cost_too_much(shared):
     (test_no_file_without_bytes_makes_others_wait, ["for name, size in self.bytes_waiting().items():", "for name, size in ((name, each.st_size) for name, each in self.waiting().items()):"]),
     (test_hard_links, ["found.st_nlink > 1", "found.st_nlink > 100"]),
     (test_bytes_of_a_day, ["if (made or part != self.spool.taking) and is_there(each, part):", "if False:"]),
+    (test_bytes_of_a_day_of_any_file_system, ["max(found.st_blocks * 512, found.st_size if written is None else written)", "found.st_blocks * 512"]),
+    (test_a_sparse_file_costs_what_is_written_of_it, ["found.st_size if written is None else written", "found.st_size"]),
     (test_files_of_a_day, ["coming[user].update(bytes=found.st_size, files=1)", "coming[user].update(bytes=found.st_size)"]),
     (test_windows_of_a_day, ["self.charge(user, kind, int(amount))", "self.charge(user, kind, 0)"]),
     (test_old_windows_of_a_day, ["changed = again & taking.changed.keys()", "changed = set()"]),
@@ -496,6 +537,7 @@ def test_a_wrong_version_is_caught(cadf, tmp_path, check, texts):
 
 
 @pytest.mark.parametrize("check, texts", [
+    (test_a_publisher_that_costs_much_on_any_file_system, ["max(found.st_blocks * 512, found.st_size if written is None else written)", "found.st_blocks * 512"]),
     (test_a_publisher_that_costs_much_waits_alone, ["[\"--publishers=%d\" % PUBLISHERS]", "[]"]),
     (test_a_publisher_that_costs_much_waits_alone, ["self.spool.users[own] = user\n", "pass\n"]),
     (test_a_publisher_that_costs_much_waits_alone, ["os.fchmod(file, 0o600)\n", "pass\n"]),
