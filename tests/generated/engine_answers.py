@@ -20,7 +20,8 @@ def engine(call):
     own = {
         b"join": lambda: [call.log or b""], b"rehearse": lambda: [call.log, call.sites], b"rule": lambda: call.ruling,
         b"split": lambda: [call.unit, call.log or b""], b"show": lambda: ["conflicts" if call.flag else "log"],
-        b"verify": lambda: ["absent" if call.flag else "present"], b"missing": lambda: [call.senders] if is_several else [],
+        b"verify": lambda: ["absent" if call.flag else "present"], b"grew": lambda: ["erased" if b"--erased" in call.given else "all"],
+        b"missing": lambda: [call.senders] if is_several else [],
         b"sketch": lambda: [call.given.get(option, b"") for option in OPTIONS[b"sketch"]]}
     return name, own.get(call.command, lambda: [])()
 
