@@ -176,7 +176,8 @@ class Ended(NamedTuple):
     is_many: bool  # a step of pytest
 
     def line(self):
-        verdict = {0: "passed", -signal.SIGTERM: "ended by SIGTERM"}.get(self.status, "FAILED: status %d" % self.status)
+        done = "skipped" if re.fullmatch("skipped: .*\n", self.said) else "passed"
+        verdict = {0: done, -signal.SIGTERM: "ended by SIGTERM"}.get(self.status, "FAILED: status %d" % self.status)
         return "%-12s %7.1f s %8.1f s  %s" % (self.name, self.seconds, self.processors, verdict)
 
     def counts(self):
@@ -249,7 +250,7 @@ class Gate:
             self.ended.append(ended)
             if ended.status:
                 sys.stdout.write(ended.said)
-            last = ended.said.rstrip("\n").rsplit("\n", 1)[-1]
+            last = ended.said.rstrip("\n").rsplit("\n", 1)[-1].removeprefix("skipped: ")
             print("%s%s" % (ended.line(), "" if ended.status else ": " + last), flush=True)
         if ended.status and self.is_ended:
             self.end()
@@ -284,9 +285,10 @@ class Gate:
         self.end()
         os._exit(130)
 
-    def table(self, begun, may_skip):
-        """Prints the whole as a table, with the kit. Returns the exit status."""
+    def table(self, begun, may_skip, is_gate=True):
+        """Prints the whole as a table, with the kit; of a gate also the names for which nothing was skipped. Returns the exit status."""
         print("\n%s, %d processors" % (record.answer(["rt", "version"], TOP) or "without the kit", os.cpu_count()))
+        print("%-12s %9s %10s" % ("step", "clock", "processors"))
         for step in self.ended:
             print(step.line())
         used = sum(step.processors for step in self.ended)
@@ -296,7 +298,8 @@ class Gate:
         found = {why: skips.name_of(why, names) for _, _, why in left_out}
         for name, _, why in left_out:
             print("%s: %s: %s" % ("skipped" if found[why] else "skipped, and %s doesn't name it" % skips.LIST, name, why))
-        print("allowed, and not skipped: " + " ".join(name for name in names if name not in found.values()))
+        if is_gate:
+            print("allowed, and not skipped: " + " ".join(name for name in names if name not in found.values()))
         passed, failed = map(sum, zip(*(step.counts() for step in self.ended)))
         print("%d passed, %d failed, %d skipped" % (passed, failed, sum(number for _, number, _ in left_out)))
         return 1 if failed or left_out and not may_skip or None in found.values() else 0

@@ -125,7 +125,7 @@ def program(monkeypatch):
 def test_steps_that_are_named():
     status, text = said(os.path.join(TOP, "test"), "--no-build", "rows", "vectors")
     lines = text.splitlines()
-    assert status == 0 and re.fullmatch(r"test: what needs no build: a part of %s" % LONG, lines[0]), text
+    assert status == 0 and lines[0] == "test: what needs no build: about a minute", text
     assert {line.split()[0] for line in lines if re.search(r"\d s  passed: ", line)} == {"rows", "vectors"}
     assert lines[-2:] == ["2 passed, 0 failed, 0 skipped", "test: not tried: what needs a build: --no-build was given"]
     assert said(os.path.join(TOP, "test"), "nothing")[0] == 2
@@ -135,7 +135,7 @@ def test_steps_that_are_named():
 def test_progress(program, monkeypatch, capsys, command, status):
     """It says what runs while it waits; a step that fails is its status."""
     monkeypatch.setattr(program, "BETWEEN", 0.2)
-    monkeypatch.setattr(program, "parts", lambda _: [("something", 1, {"slow": command, "quick": "true"})])
+    monkeypatch.setattr(program, "parts", lambda _: [("something", {"slow": (1, command), "quick": (1, "true")})])
     monkeypatch.setattr("sys.argv", ["test", "--no-build"])
     monkeypatch.setattr(program.steps, "stop_with", lambda _: None)
     assert program.main() == status
@@ -171,13 +171,31 @@ def test_parts(program, monkeypatch, tmp_path, there, with_build, titles, wanted
         (tmp_path / name).chmod(0o755)
     monkeypatch.setattr(program, "TOP", str(tmp_path))
     monkeypatch.setenv("PATH", str(tmp_path))
-    assert [title for title, _, _ in program.parts(with_build)] == titles and program.left_out(with_build) == wanted
+    assert [title for title, _ in program.parts(with_build)] == titles
+    assert list(program.left_out(with_build, True)) == ([wanted] if wanted else [])
+    assert list(program.left_out(with_build, False))[1:] == list(program.left_out(with_build, True))
+
+
+def test_without_pytest(program, monkeypatch, capsys):
+    """The time is that of the other steps; pytest's are told as skipped, and at the end what to install. The gate's list of names is not there."""
+    monkeypatch.setattr(program.steps, "pytest_words", lambda: None)
+    monkeypatch.setattr(program.patience, "slowness", lambda: 8)
+    monkeypatch.setattr(program.os, "sched_getaffinity", lambda _: {0})
+    monkeypatch.setattr(program, "parts", lambda _: [("something", {"quick": (0.5, "true"), "unbuilt": (100, "pytest -m unbuilt")})])
+    monkeypatch.setattr(program.steps, "stop_with", lambda _: None)
+    monkeypatch.setattr("sys.argv", ["test", "--no-build"])
+    assert program.main() == 0
+    lines = capsys.readouterr().out.splitlines()
+    assert lines[0] == "test: something: some 4 minutes"
+    assert [line.split("  ")[-1] for line in lines if line.startswith("unbuilt ")] == ["skipped: " + program.steps.WITHOUT_PYTEST, "skipped"]
+    assert "step             clock processors" in lines and not any(line.startswith("allowed") for line in lines)
+    assert lines[-3:-1] == ["1 passed, 0 failed, 1 skipped", "test: not tried: most tests: " + program.steps.WITHOUT_PYTEST]
 
 
 def test_output_of_test(program, monkeypatch, tmp_path):
-    """README shows how it begins and ends where nothing is built and no kit is there."""
+    """README shows how it begins and ends where nothing is built and no kit is there; N stands for a count, which README has not."""
     first, beat, *_, counts, last = blocks("See it, test it")[0].splitlines()
     monkeypatch.setattr(program, "TOP", str(tmp_path))
     monkeypatch.setenv("PATH", str(tmp_path))
-    assert re.fullmatch(r"test: %s: %s" % (program.NO_BUILD[0], LONG), first) and re.fullmatch(r" +\d s  (\w+) \d+ %", beat).group(1) in program.NO_BUILD[2]
-    assert re.fullmatch(r"\d+ passed, 0 failed, 0 skipped", counts) and last == "test: not tried: " + program.left_out(True)
+    assert re.fullmatch(r"test: %s: %s" % (program.NO_BUILD[0], LONG), first) and re.fullmatch(r" +\d s  (\w+) \d+ %", beat).group(1) in program.NO_BUILD[1]
+    assert counts == "N passed, 0 failed, 0 skipped" and ["test: not tried: " + what for what in program.left_out(True, True)] == [last]
