@@ -1,7 +1,7 @@
 """What a site keeps: all that has no time, windows from its floor on, and those below it that are held; and what went.
 
-A site that is a folder says so in a file `gone.DIGITS`, which its file `site` names; docs/FORMATS.md has the form. A site that forgot
-nothing has none. Facts that aren't kept are neither taken nor exchanged: all tools ask here, by
+A site that is a folder says so in a file `gone.DIGITS`, which its file `site` names; docs/FORMATS.md has the form. A site that forgot and
+erased nothing has none. Facts that aren't kept are neither taken nor exchanged: all tools ask here, by
 
   Folder.gone()          what a folder says: a Gone
   Gone.kept              what it keeps: a Kept
@@ -16,10 +16,13 @@ from cadf_toolkit import with_digest
 
 FIRST = "CADF-GONE 1\n"
 FILE = re.compile(r"gone\.([0-9a-f]{64})")
-FLOOR, HOLD, RELEASE = "T", "H", "R"  # the letters of acts
-ACT = re.compile(r'([THR]) (%s) ([0-9]{4}-[0-9]{2}-[0-9]{2}T[0-9]{2}:[0-9]{2}:[0-9]{2}Z) (\[".*"\])' % WINDOW)
+FLOOR, HOLD, RELEASE, ERASE = "T", "H", "R", "E"  # the letters of acts
+WHEN_AND_WHO = r'([0-9]{4}-[0-9]{2}-[0-9]{2}T[0-9]{2}:[0-9]{2}:[0-9]{2}Z) (\[".*"\])'
+ACT, ERASURE = re.compile(r"([THR]) (%s) %s" % (WINDOW, WHEN_AND_WHO)), re.compile("E " + WHEN_AND_WHO)
+ROOTS = r" (0|[1-9][0-9]{0,19}) ([0-9a-f]{64}) (0|[1-9][0-9]{0,19}) ([0-9a-f]{64})"
 WENT = re.compile(r"G (%s) ([1-9][0-9]{0,19}) ([0-9a-f]{64}) ([1-9][0-9]{0,19}) ([0-9a-f]{64})" % WINDOW)
-MALFORMED = (ValueError, TypeError, RecursionError)
+TOUCHED = re.compile(r"X (%s|%s)(%s)(%s)" % (SHARED, WINDOW, ROOTS, ROOTS))
+MALFORMED = (ValueError, TypeError, IndexError, RecursionError)
 MOST = 2 ** 64  # above all counts
 MOST_HELD = 1000  # windows below the floor, so that the first line of an exchange has them
 NOT_KEPT = "%s: it keeps from %s on"
@@ -61,13 +64,14 @@ def is_window(name, unit):
 
 
 class Gone:
-    """What the file says: a log, by the canonical text of its name, a unit, and lines of acts, each with those of the windows that went by it.
+    """What the file says: a log, by the canonical text of its name, a unit, and lines of acts, each with those of what went by it.
 
-    `kept` is what is kept, and `windows` has of each window that went what a seal of a folder has of one.
+    `kept` is what is kept, and `windows` has of each window that went what a seal of a folder has of one. `erased` has, in the order of acts, each
+    part of which facts were erased, and both texts that a seal has of it, before and after.
     """
 
     def __init__(self, log, unit, lines=()):
-        self.log, self.unit, self.lines, self.kept, self.windows = log, unit, [], ALL, {}
+        self.log, self.unit, self.lines, self.kept, self.windows, self.erased = log, unit, [], ALL, {}, []
         for line in lines:
             self.add(line)
 
@@ -90,9 +94,13 @@ class Gone:
 
     def add(self, line):
         """Adds a line. One of MALFORMED: it is none, or doesn't go on from those before."""
-        act = ACT.fullmatch(line)
+        act, erasure = ACT.fullmatch(line), ERASURE.fullmatch(line)
         if act:
             self.act(act[1], act[2], act[4])
+        elif erasure:
+            check_words(erasure[2])
+        elif line.startswith("X"):
+            self.touch(TOUCHED.fullmatch(line))
         else:
             self.go(WENT.fullmatch(line))
         self.lines.append(line)
@@ -100,21 +108,36 @@ class Gone:
     def act(self, letter, window, text):
         floor, held = self.kept
         is_right = {FLOOR: floor is None or window >= floor, HOLD: (floor is None or window >= floor) and window not in held, RELEASE: window in held}[letter]
-        if not is_right or not is_window(window, self.unit) or text != words_text(*json.loads(text)):
+        check_words(text)
+        if not is_right or not is_window(window, self.unit):
             raise ValueError
         self.kept = Kept(window, held) if letter == FLOOR else Kept(floor, held | {window} if letter == HOLD else held - {window})
 
     def go(self, found):
         window = found[1] if found else ""
         last = WENT.fullmatch(self.lines[-1]) if self.lines else None
+        is_of_erasure = bool(self.lines) and self.lines[-1][0] in "EX"
         if not is_window(window, self.unit) or self.kept.has(window) or window in self.windows or last and last[1] >= window \
-                or max(int(found[2]), int(found[4])) >= MOST:
+                or max(int(found[2]), int(found[4])) >= MOST or is_of_erasure:
             raise ValueError
         self.windows[window] = found[0].split(" ", 2)[2]
+
+    def touch(self, found):
+        part, last = found[1], self.lines[-1]
+        is_first, before = last.startswith(ERASE), TOUCHED.fullmatch(last)
+        is_in_order = is_first or before is not None and (before[1] != SHARED, before[1]) < (part != SHARED, part)
+        counts = [int(found[place]) for place in (3, 5, 8, 10)]
+        if not is_in_order or part != SHARED and not is_window(part, self.unit) or not self.kept.has(part) or max(counts) >= MOST or counts[0] <= counts[2]:
+            raise ValueError
+        self.erased.append((part, found[2][1:], found[7][1:]))
 
     def after(self, letter, window, when, who, why):
         """What a further act makes of it: the floor rises, or a window is held or released."""
         return Gone(self.log, self.unit, [*self.lines, "%s %s %s %s" % (letter, window, when, words_text(who, why))])
+
+    def after_erasure(self, when, who, why):
+        """What an erasure makes of it, to which a line is added for each part that it touched."""
+        return Gone(self.log, self.unit, [*self.lines, "%s %s %s" % (ERASE, when, words_text(who, why))])
 
 
 def words_text(who, why):
@@ -122,6 +145,12 @@ def words_text(who, why):
     if not isinstance(who, str) or not isinstance(why, str):
         raise TypeError
     return json.dumps([who, why], ensure_ascii=False, separators=(",", ":"))
+
+
+def check_words(text):
+    """One of MALFORMED: it isn't the canonical text of who does something and why."""
+    if text != words_text(*json.loads(text)):
+        raise ValueError
 
 
 def file_name(digits):

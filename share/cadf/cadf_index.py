@@ -492,11 +492,11 @@ class EventIndex:
             self.run("UPDATE OR REPLACE kept SET files = ?, bytes = ? WHERE files = ?", (after, size, before))
 
     def forget_others(self, folder):
-        """Has nothing of windows that the folder's `site` doesn't name, and keeps nothing of other files."""
-        parts = folder.site().parts()
-        wanted = {files_of(files) for files in parts.values()}
+        """Has nothing of windows that have other files by the folder's `site`, or none, and keeps nothing of other files."""
+        own = {part: files_of(files) for part, files in folder.site().parts().items()}
+        wanted = set(own.values())
         with self.changing():
-            self.put_some(folder, {part: None for part, in self.run("SELECT name FROM windows").fetchall() if part not in parts})
+            self.put_some(folder, {part: None for part, files in self.run("SELECT name, files FROM windows").fetchall() if own.get(part) != files})
             others = [each for each, in self.run("SELECT DISTINCT files FROM kept") if each not in wanted]
             self.connection.executemany("DELETE FROM kept WHERE files = ?", ((each,) for each in others))
 

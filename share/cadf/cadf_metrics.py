@@ -26,6 +26,7 @@ from cadf_toolkit import (DIFFERS, DONE, FAILED, MEMORY, REFUSED, Fault, cadf, n
 
 HELP = {
     "facts_taken_total": "Facts that were taken into the site; of cadf-spool, those that it held before among them.",
+    "facts_erased_total": "Facts that were erased, or that came of what was erased and were dropped.",
     "facts_lacked": "Facts of the other site that the site lacks.",
     "facts_lacked_by_peer": "Facts that the peer lacked when the last run compared.",
     "windows_not_kept_by_peer": "Windows of the site that the peer keeps no more.",

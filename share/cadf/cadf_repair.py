@@ -125,10 +125,12 @@ def put(name, part, whole, lost, other, is_known):
         for digest in named:
             keep_beside(found.folder, (part, digest), True)
         found.changed[part] = [digest for digest in found.digests(part) if digest not in named]
-        for file in [*(file for digest, file in whole.items() if not found.index.has(file_name(part, digest))), *([other] if other else [])]:
-            with found.new_file() as output:
-                copy(file, output)
-            found.keep(part, last_digest(file.file))  # unless they are held
+        came = [*(file for digest, file in whole.items() if not found.index.has(file_name(part, digest))), *([other] if other else [])]
+        with found.left_of(came) as (files, _):
+            for file in files:
+                with found.new_file() as output:
+                    copy(file, output)
+                found.keep(part, last_digest(file.file))  # unless they are held
         found.put_changed()
         with cadf_state.changing(found.folder) as times:
             for digest in [*whole, *(lost if is_known else [])]:

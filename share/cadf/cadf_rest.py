@@ -55,7 +55,7 @@ class Rest:
     `rereads` says how many bytes of far windows that are there each sender may have read again, if there is such a limit, and `reread`
     afterwards how many each has: those who bring something to one window share its bytes.
     """
-    kept = ALL  # by the site
+    kept, erased = ALL, 0  # by the site; how many facts were left out, since it erased them
 
     def __init__(self, name, most, each, bounds, senders, welcome=None, rereads=None):
         self.most, self.each, self.bounds, self.senders, self.welcome, self.rulings = most, each, bounds, senders, welcome, set()

@@ -23,6 +23,7 @@ import subprocess
 import tempfile
 
 from cadf_children import made_by_children
+import cadf_erased
 import cadf_gone
 from cadf_times import SHARED, UNITS, WINDOW, Bounds, window_of
 from cadf_toolkit import (CADF, DIFFERS, DONE, FAILED, IN_THE_WAY, LARGEST, LAST, MEMORY, NOT_ITS_FAULT, REFUSED, Fault, Input, Refusal, allow_inputs,
@@ -32,7 +33,7 @@ from cadf_toolkit import (CADF, DIFFERS, DONE, FAILED, IN_THE_WAY, LARGEST, LAST
 ALL = 10 ** 9 - 1  # windows that a take may begin if a person allows all
 INDEX, LOCK, WORKING, ROOM = "site", ".lock", ".new", ".room"
 LEAST_ROOM = 2 ** 20  # bytes that are kept for a forgetting on a full disk
-HEAD = re.compile(rb"CADF-SITE [12]\nL (.*)\nB (month|day|hour)\n(?:G ([0-9a-f]{64})\n)?")
+HEAD = re.compile(rb"CADF-SITE [12]\nL (.*)\nB (month|day|hour)\n(?:G ([0-9a-f]{64})\n(?:E ([0-9a-f]{64})\n)?)?")
 OTHER_VERSION = re.compile(rb"CADF-SITE (?!1\n|2\n)[0-9]{1,6}\n")
 PART = r"(?:%s|%s)" % (SHARED, WINDOW)
 DIGITS = r"[0-9a-f]{64}"
@@ -85,13 +86,14 @@ def other_unit(unit, wanted):
 
 
 class Index:
-    """What the file `site` says: a log, by the canonical text of its name, a unit, files, by part and digest, and the digits of the file of what went, or None.
+    """What the file `site` says: a log, by the canonical text of its name, a unit, files, by part and digest, and digits: of the file of what went and
+    of the list of what was erased, or None.
 
     It is held by its lines, in the order of their bytes, in which `shared` is last. A take needs few of them.
     """
 
-    def __init__(self, log, unit, lines=(), gone=None):
-        self.log, self.unit, self.lines, self.gone = log, unit, sorted(lines), gone
+    def __init__(self, log, unit, lines=(), gone=None, erased=None):
+        self.log, self.unit, self.lines, self.gone, self.erased = log, unit, sorted(lines), gone, erased
 
     @classmethod
     def read(cls, data):
@@ -103,7 +105,7 @@ class Index:
             log_name(head[1].decode())
         except ValueError:
             return None
-        index = cls(head[1].decode(), head[2].decode(), data[head.end():cut].splitlines(True), head[3] and head[3].decode())
+        index = cls(head[1].decode(), head[2].decode(), data[head.end():cut].splitlines(True), *(digits and digits.decode() for digits in head.groups()[2:]))
         return index if index.is_well_formed() and b"".join(index.bytes()) == data else None
 
     def is_well_formed(self):
@@ -120,7 +122,8 @@ class Index:
         """Yields the lines of the file."""
         first = bisect.bisect_left(self.lines, b"F " + SHARED.encode())
         hash_all = hashlib.sha256()
-        head = [("CADF-SITE %d\nL %s\nB %s\n%s" % (2 if self.gone else 1, self.log, self.unit, "G %s\n" % self.gone if self.gone else "")).encode()]
+        lists = "".join("%s %s\n" % each for each in (("G", self.gone), ("E", self.erased)) if each[1])
+        head = [("CADF-SITE %d\nL %s\nB %s\n%s" % (2 if lists else 1, self.log, self.unit, lists)).encode()]
         for line in itertools.chain(head, itertools.islice(self.lines, first, None), itertools.islice(self.lines, first)):
             hash_all.update(line)
             yield line
@@ -146,17 +149,26 @@ class Index:
 
     def has(self, name):
         """Whether a file of that name is one of the site."""
-        if cadf_gone.FILE.fullmatch(name):
-            return self.gone is not None and name == cadf_gone.file_name(self.gone)
+        if not WINDOW_FILE.fullmatch(name):
+            return name in self.lists()
         line = entry_line(*name[:-len(".cadf")].split("."))
         place = bisect.bisect_left(self.lines, line)
         return self.lines[place:place + 1] == [line]
+
+    def lists(self):
+        """The names of the file of what went, and of the list of what was erased, if there are any."""
+        return [module.file_name(digits) for module, digits in ((cadf_gone, self.gone), (cadf_erased, self.erased)) if digits]
+
+    def names(self):
+        """The names of the files."""
+        return [*(file_name(*entry) for entry in self.entries()), *self.lists()]
 
     def with_parts(self, parts):
         """The index that has these digests for these parts."""
         others = {part.encode() for part in parts}
         lines = [line for line in self.lines if line.split(b" ", 2)[1] not in others]
-        return Index(self.log, self.unit, lines + [entry_line(part, digest) for part, digests in parts.items() for digest in digests], self.gone)
+        lines += [entry_line(part, digest) for part, digests in parts.items() for digest in digests]
+        return Index(self.log, self.unit, lines, self.gone, self.erased)
 
 
 class Folder:
@@ -167,7 +179,7 @@ class Folder:
 
     def __init__(self, name, damaged=None):
         self.name, self.read, self.files = name.rstrip("/") or "/", (None, None), contextlib.ExitStack()
-        self.went = None, None  # the digits of the file of what went that was read last, and what it says
+        self.lists = {}  # of the file of what went, and of the list of what was erased, the digits of the one that was read last, and what it says
         self.damaged = damaged  # why parts are left out, by part; None if all of them are needed
         try:
             self.descriptor = os.open(name, os.O_RDONLY | os.O_DIRECTORY)
@@ -224,7 +236,7 @@ class Folder:
             if fault.errno in NOT_ITS_FAULT:
                 raise
             is_other = fault.errno in (errno.ELOOP, errno.EINVAL, errno.EISDIR)
-            advice = LOST if name == INDEX else cadf_gone.LOST if cadf_gone.FILE.fullmatch(name) else DAMAGED
+            advice = LOST if name == INDEX else cadf_gone.LOST if is_list(name) else DAMAGED
             said = NO_FILE + advice if is_other else fault.strerror
             raise Fault("%s: %s" % (self.shown(name), said)) from None
 
@@ -292,23 +304,33 @@ class Folder:
 
     def gone(self):
         """What went of it, and what it keeps, by the file that `site` names. Raises that this can't be read: then nobody knows what is to be taken."""
+        return self.listed(cadf_gone, lambda index: index.gone, lambda data, index: cadf_gone.Gone.read(data, index.log, index.unit)) \
+            or cadf_gone.Gone(self.site().log, self.site().unit)
+
+    def erased(self):
+        """What was erased of it, by the list that `site` names. Raises that this can't be read, as of what went."""
+        return self.listed(cadf_erased, lambda index: index.erased, lambda data, index: cadf_erased.Erased.read(data, index.log)) \
+            or cadf_erased.Erased(self.site().log)
+
+    def listed(self, module, digits_of, read):
+        """What such a file says that `site` names by its digits. None: it names none. Raises that this can't be read."""
         for _ in range(TRIES):
             index = self.site()
-            if index.gone is None:
-                return cadf_gone.Gone(index.log, index.unit)
-            if index.gone == self.went[0]:
-                return self.went[1]
-            name = cadf_gone.file_name(index.gone)
+            digits, known = digits_of(index), self.lists.get(module)
+            if digits is None or known and known[0] == digits:
+                return digits and known[1]
+            name = module.file_name(digits)
             try:
                 with self.input(name).file as file:
-                    found = cadf_gone.Gone.read(file.read(LONGEST_INDEX), index.log, index.unit)
+                    found = read(file.read(LONGEST_INDEX), index)
             except FileNotFoundError:
-                if self.site().gone != index.gone:
+                if digits_of(self.site()) != digits:
                     continue
                 raise Fault("%s: not there: %s" % (self.shown(name), cadf_gone.LOST), REFUSED) from None
-            if found is None or found.digits() != index.gone:
+            if found is None or found.digits() != digits:
                 raise Fault("%s: damaged, or of a later release: %s" % (self.shown(name), cadf_gone.LOST), REFUSED)
-            self.went = index.gone, found
+            self.lists[module] = digits, found
+            return found
         raise Fault(CHANGED % self.shown())
 
     def no_site(self):
@@ -316,6 +338,11 @@ class Folder:
         if any(map(WINDOW_FILE.fullmatch, os.listdir(self.descriptor))) and not self.is_site():
             return Fault("%s: it is not there, and files of windows are: %s" % (self.shown(INDEX), LOST), REFUSED)
         return Fault("%s: %s" % (self.shown(), NO_SITE), REFUSED)
+
+
+def is_list(name):
+    """Whether a file of that name may be one of what went, or of what was erased."""
+    return any(module.FILE.fullmatch(name) for module in (cadf_gone, cadf_erased))
 
 
 def number_of_windows(text):
@@ -617,6 +644,7 @@ class Taking:
             self.check_lock()
             self.index = folder.index()
             self.kept = folder.gone().kept if self.index else cadf_gone.ALL
+            self.erased = folder.erased() if self.index else cadf_erased.Erased(None)
         except BaseException:
             os.close(self.lock)
             raise
@@ -651,7 +679,7 @@ class Taking:
         left, strangers = [], []
         with os.scandir(self.folder.descriptor) as files:
             for file in files:
-                if WINDOW_FILE.fullmatch(file.name) or cadf_gone.FILE.fullmatch(file.name):
+                if WINDOW_FILE.fullmatch(file.name) or is_list(file.name):
                     if self.index is None or not self.index.has(file.name):
                         left.append(file.name)
                 elif file.name == WORKING:
@@ -753,6 +781,10 @@ class Taking:
             raise Fault(str(fault), FAILED if fault.status == REFUSED else fault.status) from None
 
     # The steps of a take
+
+    def left_of(self, inputs):
+        """What is left of inputs without what was erased, and how many facts are left out, as cadf_erased.left_of has it."""
+        return cadf_erased.left_of(self.erased, inputs, [self.lock])
 
     def words(self, unit, log):
         """The words of a split, by the site's unit and log, or these ones, if there is no site yet."""
@@ -875,19 +907,26 @@ class Taking:
         else:
             os.fsync(self.folder.descriptor)  # a call that was killed may have put it there
 
-    def forget(self, gone):
-        """Replaces `site` by one that names this file of what went, and no windows but those that are kept; then their files go."""
-        self.is_removed(ROOM)  # which a full disk has for what is written here
-        with self.new_file() as output:
-            output.write(gone.bytes())
-        self.name(cadf_gone.file_name(gone.digits()))
-        before, self.kept = self.index, gone.kept
-        lines = [entry_line(*entry) for entry in before.entries() if gone.kept.has(entry[0])]
-        self.put(Index(before.log, before.unit, lines, gone.digits()))
-        for name in [*(file_name(*entry) for entry in before.entries()), *([cadf_gone.file_name(before.gone)] if before.gone else [])]:
+    def forget(self, gone, erased=None):
+        """Replaces `site` by one that names this file of what went, this list of what was erased or the one before, and files of what is kept; then the others go."""
+        self.give_up_room()
+        erased = erased or self.erased
+        before, self.kept, self.erased = self.index, gone.kept, erased
+        for module, each in ((cadf_gone, gone), *([(cadf_erased, erased)] if erased.names else [])):
+            if not before.has(module.file_name(each.digits())):
+                with self.new_file() as output:
+                    output.write(each.bytes())
+                self.name(module.file_name(each.digits()))
+        lines = [entry_line(*entry) for entry in before.with_parts(self.changed).entries() if gone.kept.has(entry[0])]
+        self.put(Index(before.log, before.unit, lines, gone.digits(), erased.digits() if erased.names else None))
+        for name in before.names():
             if not self.index.has(name):
                 self.is_removed(name)
         self.keep_room()
+
+    def give_up_room(self):
+        """Gives up the room that a full disk has for what is written when something goes."""
+        self.is_removed(ROOM)
 
     def keep_room(self):
         """Has room on the disk for the next forgetting, if there is some now."""
@@ -947,7 +986,7 @@ def taking(name, unit, log, wait, damaged=None):
 class Limits:
     """The limits of a take that is of all or nothing: how many windows it may begin, of which times they are, and which rulings are welcome, if not all."""
 
-    kept = cadf_gone.ALL  # by the site
+    kept, erased = cadf_gone.ALL, 0  # by the site; how many facts were left out, since it erased them
 
     def __init__(self, most=MOST_NEW, bounds=Bounds(), welcome=None):
         self.most, self.bounds, self.welcome, self.begun = most, bounds, welcome, set()
@@ -987,11 +1026,12 @@ def take(name, inputs, unit=None, log=None, wait=None, limits=None):
             with contextlib.suppress(PermissionError):  # who may go through a folder may not read it
                 sync(os.path.dirname(os.path.abspath(name)))
         limits.kept = found.kept
-        for group in grouped(inputs, lambda each: os.fstat(each.file.fileno()).st_size, MOST_AT_ONCE):
-            found.add(found.words(unit, log), group, limits)
-        with limits.finished(found, inputs):
-            found.join_by_size()
-            found.put_changed()
+        with found.left_of(inputs) as (inputs, limits.erased):
+            for group in grouped(inputs, lambda each: os.fstat(each.file.fileno()).st_size, MOST_AT_ONCE):
+                found.add(found.words(unit, log), group, limits)
+            with limits.finished(found, inputs):
+                found.join_by_size()
+                found.put_changed()
 
 
 def settle(name, wait=None, told=None):

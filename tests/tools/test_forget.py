@@ -224,11 +224,11 @@ def test_a_kill_anywhere(place):
 
 
 WRONG = {
-    "files go first": ('''        self.put(Index(before.log, before.unit, lines, gone.digits()))
+    "files go first": ('''        self.put(Index(before.log, before.unit, lines, gone.digits(), erased.digits() if erased.names else None))
         for name in''', '''        for entry in before.entries():
             if not gone.kept.has(entry[0]):
                 self.is_removed(file_name(*entry))
-        self.put(Index(before.log, before.unit, lines, gone.digits()))
+        self.put(Index(before.log, before.unit, lines, gone.digits(), erased.digits() if erased.names else None))
         for name in'''),
     "the archive comes later": ('''            archive(found, going, options.archive, options.wait)
         found.forget(after)

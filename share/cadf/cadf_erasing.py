@@ -1,0 +1,146 @@
+"""How facts of a site that is a folder are erased: in which files keys are that a list names, and these files without what it leaves out.
+
+Windows are looked through for keys; what then goes `cadf omit` says. The part `shared` is always asked. A tool imports this as it imports
+cadf_toolkit, and uses
+
+  keys_in_file(input, log)     the keys that a file of keys has
+  marked_files(found, listed)  the files of a locked folder that have keys of a list, and records of rulings on such keys
+  left_out(found, ..)          writes these files anew, without what the list leaves out
+"""
+import collections
+import contextlib
+import hashlib
+import json
+import re
+import tempfile
+
+from cadf_erased import name_of_key, names_of, nothing
+from cadf_keys import NODES, contents, keys_in
+from cadf_rulings import PREFIX, record_of
+from cadf_seals import NOTHING, kept_roots, sealed
+from cadf_site import SHARED, WORKING, file_name, made_of_parts, nothing_of, order
+from cadf_toolkit import REFUSED, Fault, Input, as_input, last_digest, log_name, other_log, with_digest
+
+KEYS = b"CADF-KEYS 1"
+KEY_LINE = re.compile(rb'\["[EGMPR]","[^\n]*"\]')
+NO_KEYS = "%s: no file of keys, as `cadf-events --keys SITE` writes it"
+NOT_WHOLE = "%s: it is damaged, or not whole: have it written again"
+RECORD = b'"' + PREFIX.encode()
+BODY = b"[3,"  # with which the line of an event's body begins
+
+
+def keys_in_file(input, log):
+    """The keys that a file of keys has, each a letter and a text, for a site of that log. Fault: it is refused."""
+    data = input.whole()
+    lines = data.split(b"\n")
+    if lines[0] != KEYS or len(lines) < 2:
+        raise Fault(NO_KEYS % input.name, REFUSED)
+    try:
+        own = log_name(lines[1].removeprefix(b"L ").decode()) if lines[1].startswith(b"L ") else None
+        keys = [tuple(json.loads(line)) for line in lines[2:-2] if KEY_LINE.fullmatch(line)]
+    except (ValueError, RecursionError):
+        own, keys = None, []
+    if own is None or data != keys_file(own, keys):
+        raise Fault(NOT_WHOLE % input.name, REFUSED)
+    if own != log:
+        raise Fault("%s: %s" % (input.name, other_log(own)), REFUSED)
+    return keys
+
+
+def keys_file(log, keys):
+    """The file of keys of a log, each a letter and a text, which may come in any order."""
+    lines = {json.dumps(key, ensure_ascii=False, separators=(",", ":")).encode() for key in keys}
+    return with_digest(b"".join(line + b"\n" for line in [KEYS, b"L " + json.dumps(log, ensure_ascii=False).encode(), *sorted(lines)]))
+
+
+# ---- Which files have such keys
+
+def keys_recorded(log, key, lines):
+    """Yields the names of the keys on which an event is a record of a ruling, by its key and its lines."""
+    if key.startswith(RECORD):
+        for line in lines.split(b"\n"):
+            record = record_of(log, json.loads(key), json.loads(line)[2]) if line.startswith(BODY) else None
+            if record:
+                yield name_of_key(record.letter, record.key)
+
+
+def marked_files(found, listed, jobs):
+    """The files of windows of a locked folder that have keys of a list, or records of rulings on such keys: by part and digest the lines of each key, by its text."""
+    wanted, log = {bytes.fromhex(name[2:].decode()) for name in listed.keys()}, found.index.name()
+
+    def is_marked(key, lines):
+        return hashlib.sha256(b'["E",%s]' % key).digest() in wanted or any(name in listed.names for name in keys_recorded(log, key, lines))
+
+    def marked(_, files):
+        return {digest: {key: lines for key, lines in keys_in(contents(digest, each)) if is_marked(key, lines)} for digest, each in files.items()}
+
+    parts = [part for part in found.index.parts() if part != SHARED]
+    return {(part, digest): keys for part, files in made_of_parts([found.folder], parts, marked, jobs).items() for digest, keys in files.items() if keys}
+
+
+def names_marked(marked):
+    """The names of keys that were found so."""
+    return {b"K " + hashlib.sha256(b'["E",%s]' % key).hexdigest().encode() for keys in marked.values() for key in keys}
+
+
+# ---- What is left of them
+
+class Went(collections.namedtuple("Went", "parts names")):
+    """What went: by part the texts that a seal has of it before and after, and the names of the facts and the keys."""
+
+
+def left_out(found, listed, marked):
+    """Writes files of a locked folder anew, without what a list leaves out, for `site` to name. Says what went: a Went."""
+    names, before = set(), {}
+    entries = [(SHARED, digest) for digest in found.index.digests(SHARED)] + sorted(marked)
+    with listed.opened() as opened:
+        for part, digest in entries:
+            gone = written_anew(found, opened, part, digest, marked.get((part, digest)))
+            if gone:
+                names |= gone
+                before[part] = None
+    roots = kept_roots(found.folder, list(before))
+    return Went({part: (roots[part].roots, str(sealed_now(found, part))) for part in sorted(before, key=order)}, names)
+
+
+def written_anew(found, listed, part, digest, keys):
+    """Writes a file anew without what an open list leaves out. Returns the names of the facts and the keys that went; none if nothing does."""
+    with found.files(part, [digest]) as (own,):
+        with found.new_file() as output:
+            found.cadf(["omit"], [listed, own], output.fileno())
+        with found.folder.input(WORKING).file as file:
+            new = last_digest(file)
+            went = set() if new == digest else gone_of(found, own, Input(own.name, file), keys)
+    if new in (digest, nothing_of(found.index.log)):
+        found.is_removed(WORKING)
+    else:
+        found.name(file_name(part, new))
+    if new != digest:
+        left = [new] if new != nothing_of(found.index.log) else []
+        found.changed[part] = [each for each in found.digests(part) if each not in (digest, new)] + left
+    return went
+
+
+def gone_of(found, own, left, keys):
+    """The names of the facts and the keys that a file has and what is left of it hasn't: of a window those of its lines of keys."""
+    with contextlib.ExitStack() as steps:
+        if keys is None:
+            file = steps.enter_context(tempfile.TemporaryFile())
+            found.cadf(["missing"], [own, left], file.fileno())
+            return names_of([Input(own.name, file)])
+        lines = b"CADF-REPLICA 2\nL %s\n%s%s" % (found.index.log.encode(), NODES[1:], b"".join(keys.values()))
+        return names_of([steps.enter_context(as_input(with_digest(lines), own.name))])
+
+
+def sealed_now(found, part):
+    """The roots of what a part's files have now."""
+    digests = found.digests(part)
+    with found.files(part, digests) as inputs:
+        return sealed(inputs) if inputs else NOTHING
+
+
+def check_counts(went):
+    """Raises that another number of facts went than has names: then nobody could show what went."""
+    counted = sum(int(before.split(" ")[0]) - int(after.split(" ")[0]) for before, after in went.parts.values())
+    if counted != sum(name.startswith(b"F") for name in went.names):
+        raise Fault("of %d facts that would go not all have names: nothing went" % counted)
