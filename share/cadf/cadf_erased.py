@@ -7,6 +7,7 @@ kept. Which facts these are `cadf omit` says, and nothing else. A tool imports t
   read(input, log)           the list that a file has
   left_of(listed, inputs)    what a list leaves of inputs, and how many facts it leaves out
   names_of(inputs)           the names of the facts and of the keys that files have together
+  keys_in_file(input, log)   the keys that a file of keys has, as keys_file(log, keys) makes it
 """
 import contextlib
 import hashlib
@@ -16,12 +17,15 @@ import re
 import subprocess
 import tempfile
 
-from cadf_toolkit import REFUSED, Fault, Input, another_program, as_input, cadf, grouped, with_digest
+from cadf_toolkit import REFUSED, Fault, Input, another_program, as_input, cadf, grouped, log_name, other_log, with_digest
 
 FILE = re.compile(r"erased\.([0-9a-f]{64})")
 HEAD = "CADF-ERASED 1\nL %s\n"
 NAME = re.compile(rb"[FK] [0-9a-f]{64}")
 COUNTED = re.compile(rb" atoms (\d+) conflicts \d+\n$")  # what cadf says of files that it checks
+KEYS, KEY = b"CADF-KEYS 1", re.compile(rb'\["[EGMPR]","[^\n]*"\]')  # how a file of keys begins, and a line of one
+NO_KEYS = "%s: no file of keys, as `cadf-events --keys SITE` writes it"
+NOT_WHOLE = "%s: it is damaged, or not whole: have it written again"
 MOST_AT_ONCE = 2 ** 28  # bytes of inputs that are looked at together
 LIST = "the list of what was erased"
 
@@ -135,3 +139,29 @@ def left_of(listed, inputs, keep=()):
                     files.enter_context(own.file)
                 left.append(own)
         yield left, count
+
+
+# ---- Files of keys
+
+def keys_in_file(input, log):
+    """The keys that a file of keys has, each a letter and a text, for a site of that log. Fault: it is refused."""
+    data = input.whole()
+    lines = data.split(b"\n")
+    if lines[0] != KEYS or len(lines) < 2:
+        raise Fault(NO_KEYS % input.name, REFUSED)
+    try:
+        own = log_name(lines[1].removeprefix(b"L ").decode()) if lines[1].startswith(b"L ") else None
+        keys = [tuple(json.loads(line)) for line in lines[2:-2] if KEY.fullmatch(line)]
+    except (ValueError, RecursionError):
+        own, keys = None, []
+    if own is None or data != keys_file(own, keys):
+        raise Fault(NOT_WHOLE % input.name, REFUSED)
+    if own != log:
+        raise Fault("%s: %s" % (input.name, other_log(own)), REFUSED)
+    return keys
+
+
+def keys_file(log, keys):
+    """The file of keys of a log, each a letter and a text, which may come in any order."""
+    lines = {json.dumps(key, ensure_ascii=False, separators=(",", ":")).encode() for key in keys}
+    return with_digest(b"".join(line + b"\n" for line in [KEYS, b"L " + json.dumps(log, ensure_ascii=False).encode(), *sorted(lines)]))

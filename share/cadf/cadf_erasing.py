@@ -3,7 +3,6 @@
 Windows are looked through for keys; what then goes `cadf omit` says. The part `shared` is always asked. A tool imports this as it imports
 cadf_toolkit, and uses
 
-  keys_in_file(input, log)     the keys that a file of keys has
   marked_files(found, listed)  the files of a locked folder that have keys of a list, and records of rulings on such keys
   left_out(found, ..)          writes these files anew, without what the list leaves out
 """
@@ -11,46 +10,17 @@ import collections
 import contextlib
 import hashlib
 import json
-import re
 import tempfile
 
-from cadf_erased import name_of_key, names_of, nothing
+from cadf_erased import name_of_key, names_of
 from cadf_keys import NODES, contents, keys_in
 from cadf_rulings import PREFIX, record_of
 from cadf_seals import NOTHING, kept_roots, sealed
 from cadf_site import SHARED, WORKING, file_name, made_of_parts, nothing_of, order
-from cadf_toolkit import REFUSED, Fault, Input, as_input, last_digest, log_name, other_log, with_digest
+from cadf_toolkit import Fault, Input, as_input, last_digest, with_digest
 
-KEYS = b"CADF-KEYS 1"
-KEY_LINE = re.compile(rb'\["[EGMPR]","[^\n]*"\]')
-NO_KEYS = "%s: no file of keys, as `cadf-events --keys SITE` writes it"
-NOT_WHOLE = "%s: it is damaged, or not whole: have it written again"
 RECORD = b'"' + PREFIX.encode()
 BODY = b"[3,"  # with which the line of an event's body begins
-
-
-def keys_in_file(input, log):
-    """The keys that a file of keys has, each a letter and a text, for a site of that log. Fault: it is refused."""
-    data = input.whole()
-    lines = data.split(b"\n")
-    if lines[0] != KEYS or len(lines) < 2:
-        raise Fault(NO_KEYS % input.name, REFUSED)
-    try:
-        own = log_name(lines[1].removeprefix(b"L ").decode()) if lines[1].startswith(b"L ") else None
-        keys = [tuple(json.loads(line)) for line in lines[2:-2] if KEY_LINE.fullmatch(line)]
-    except (ValueError, RecursionError):
-        own, keys = None, []
-    if own is None or data != keys_file(own, keys):
-        raise Fault(NOT_WHOLE % input.name, REFUSED)
-    if own != log:
-        raise Fault("%s: %s" % (input.name, other_log(own)), REFUSED)
-    return keys
-
-
-def keys_file(log, keys):
-    """The file of keys of a log, each a letter and a text, which may come in any order."""
-    lines = {json.dumps(key, ensure_ascii=False, separators=(",", ":")).encode() for key in keys}
-    return with_digest(b"".join(line + b"\n" for line in [KEYS, b"L " + json.dumps(log, ensure_ascii=False).encode(), *sorted(lines)]))
 
 
 # ---- Which files have such keys
