@@ -16,6 +16,7 @@ import json
 import operator
 import os
 import sqlite3
+import time
 from json.encoder import encode_basestring
 from typing import NamedTuple
 
@@ -52,6 +53,7 @@ OF_SEVERAL = ("(SELECT bodies.* FROM asked_windows CROSS JOIN places ON places.w
               " CROSS JOIN bodies ON bodies.key = places.key AND bodies.window = places.window GROUP BY bodies.rowid)")
 KEY_BYTES, LONGEST_TEXT, LARGEST_BODY = 16, 2 ** 12, 2 ** 24
 ROWS_AT_ONCE, PATTERNS_AT_ONCE = 2 ** 14, 64
+REFUSED_SIGNATURES = "refused signatures"  # the kind of what is kept that belongs to no files
 DECODE = json.JSONDecoder().raw_decode  # made once: that takes as long as a use
 MALFORMED = (*UNREADABLE, AttributeError, KeyError, TypeError)
 
@@ -484,6 +486,14 @@ class EventIndex:
             self.connection.executemany("INSERT OR REPLACE INTO kept VALUES (?, ?, ?, ?, ?)", ((kind, files, *row) for files, row in rows.items()))
             self.connection.executemany("DELETE FROM kept WHERE kind = ? AND files = ?", ((kind, files) for files in self.kept(kind).keys() - wanted))
 
+    def add(self, kind, keys, most):
+        """Keeps of that kind what doesn't belong to files, by keys of 32 bytes, and of all such the latest, at most so many."""
+        with self.changing():
+            self.connection.executemany("INSERT OR REPLACE INTO kept VALUES (?, ?, '', 0, ?)", ((kind, each, int(time.time())) for each in keys))
+            count, = self.run("SELECT count(*) FROM kept WHERE kind = ?", (kind,)).fetchone()
+            if count > most:
+                self.run("DELETE FROM kept WHERE kind = ? AND files IN (SELECT files FROM kept WHERE kind = ? ORDER BY read, files LIMIT ?)", (kind, kind, count - most))
+
     def carry_over(self, part, before, after, size):
         """Has what is kept of the files of a part be of others, of so many bytes, that have the same facts. Bodies of a window with places, which are others, stay."""
         with self.changing():
@@ -497,7 +507,7 @@ class EventIndex:
         wanted = set(own.values())
         with self.changing():
             self.put_some(folder, {part: None for part, files in self.run("SELECT name, files FROM windows").fetchall() if own.get(part) != files})
-            others = [each for each, in self.run("SELECT DISTINCT files FROM kept") if each not in wanted]
+            others = [each for each, in self.run("SELECT DISTINCT files FROM kept WHERE kind <> ?", (REFUSED_SIGNATURES,)) if each not in wanted]
             self.connection.executemany("DELETE FROM kept WHERE files = ?", ((each,) for each in others))
 
     def forget(self, keys, but):

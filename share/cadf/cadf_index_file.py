@@ -10,7 +10,7 @@ import sqlite3
 import stat
 import urllib.parse
 
-from cadf_index import MALFORMED, EventIndex, Untrusted, files_of, read_window
+from cadf_index import MALFORMED, REFUSED_SIGNATURES, EventIndex, Untrusted, files_of, read_window
 from cadf_site import INDEX, file_name
 from cadf_toolkit import NOT_ITS_FAULT, Fault, name_shown, open_descriptor, say
 
@@ -159,6 +159,24 @@ def keep(folder, kind, rows, places=PLACES):
     """Keeps such rows of the folder's parts, if there is an index that can be written."""
     if rows:
         made_by(folder, lambda index, _: index.keep(kind, rows, wanted_of(folder)), places)
+
+
+def refused_signatures(folder):
+    """The keys of signatures that were refused before, as the index of an open folder keeps them, and one of the caller's own."""
+    found = set()
+
+    def read(index, mode):
+        found.update(index.kept(REFUSED_SIGNATURES))
+        if mode == "ro":
+            raise Untrusted  # there may be more in one of the caller's own
+
+    made_by(folder, read)
+    return found
+
+
+def keep_refused_signatures(folder, keys, most):
+    """Keeps further such keys, of which there are at most so many, if there is an index that can be written."""
+    made_by(folder, lambda index, _: index.add(REFUSED_SIGNATURES, keys, most))
 
 
 def carry_over(folder, before, after):

@@ -28,10 +28,14 @@ LONGEST = 86400  # seconds of silence
 LONGEST_FIRST, LONGEST_HEAD, LONGEST_ENTRY = 2 ** 15, 32, 64  # bytes of a line
 LONGEST_TEXT = 2000  # characters of what the other end says
 MOST_ITEMS = 10000  # of a message
+OF_ITEMS = "ask", "answer", "take"  # the messages that have items
 MOST_WAITS = 1000  # of an end that works, one after another
 BEAT = 10  # seconds between two signs of life of an end that works
 BLOCK, PIECE = 2 ** 16, 4096  # bytes that are read at once; that have to come in time, and go without blocking
 LOOK = 100  # milliseconds between two looks whether a wait goes on
+# Of what is as long as a message may be: how many lines come before those of digests or cells, and how long each of these and the last line is.
+LONG_KINDS = {"inventory": (2, (64, 66)), "sketch": (4, (80, 66))}
+LONGEST_BEFORE = 2 ** 13  # bytes of a line before them, as that of the log's name
 CAME_SO = "it came so, and no file here is at fault: tell the operator of the end that sent it"
 
 
@@ -127,6 +131,64 @@ def batches(items, limit):
         return size
 
     return grouped(items, size_of, min(limit, ENOUGH) - len("\n"), MOST_ITEMS)
+
+
+class Lines:
+    """What came of the lines of an item, which are judged by their lengths."""
+
+    def __init__(self, name, kind):
+        self.name, self.number, self.length = name, 1, 0  # of the line that comes, and how much of it has come
+        self.before, self.lengths = LONG_KINDS[kind]
+
+    def add(self, data):
+        """Raises that a line isn't as long as one of its kind is, as soon as that is known."""
+        *ended, last = data.split(b"\n")
+        for line in ended:
+            self.add_to_line(len(line))
+            if self.number > self.before and self.length not in self.lengths:
+                self.refuse()
+            self.number, self.length = self.number + 1, 0
+        self.add_to_line(len(last))
+
+    def add_to_line(self, length):
+        self.length += length
+        if self.length > (max(self.lengths) if self.number > self.before else LONGEST_BEFORE):
+            self.refuse()
+
+    def refuse(self):
+        raise Wrong("%s: line %d: shape: no line of such a file is so long, or so short" % (self.name, self.number))
+
+
+class Judged:
+    """What came of a message of items, which is judged before all of it is there. What isn't refused here may be so later."""
+
+    def __init__(self, peer, check):
+        self.peer, self.check, self.table, self.items = peer, check, b"", None  # of what is in the table: a part, a kind, a length, and its lines
+
+    def add(self, data):
+        """Adds further bytes. Raises what is known to be wrong."""
+        if self.items is None:
+            self.table += data
+            table, is_whole, data = (b"\n" + self.table).partition(b"\n\n")
+            if not is_whole:
+                if len(table) > MOST_ITEMS * LONGEST_ENTRY:
+                    raise Wrong("%s: no table of items" % self.peer)
+                return
+            self.begin([line + b"\n" for line in table.split(b"\n")[1:]])
+        while data and self.items:
+            length, lines = self.items.pop(0)
+            if lines:
+                lines.add(data[:length])
+            if length > len(data):
+                self.items.insert(0, (length - len(data), lines))
+            data = data[length:]
+
+    def begin(self, table):
+        """Begins the items of a table; none of one that isn't of items, which is refused when all is there."""
+        self.table, self.items, found = b"", [], [ENTRY.fullmatch(line) for line in table]
+        for part, kind, length in ((each[1].decode(), each[2].decode(), int(each[3])) for each in found if all(found)):
+            self.check(part, kind, length)
+            self.items.append((length, Lines("%s: the %s of %s" % (self.peer, kind, part), kind) if kind in LONG_KINDS else None))
 
 
 class Message(NamedTuple):
@@ -233,8 +295,8 @@ class Link:
             raise Wrong("%s: a line that is too long: %s" % (self.peer, shown(line)))
         return line
 
-    def receive(self, length):
-        """A private file of the next bytes. Of each piece all has to come in time."""
+    def receive(self, length, judge=lambda _: None):
+        """A private file of the next bytes, which are judged as they come. Of each piece all has to come in time."""
         file = tempfile.TemporaryFile()
         check_room(file, length)
         while length:
@@ -243,6 +305,7 @@ class Link:
                 if not self.read(ending):
                     raise Fault("%s: cut in a message, of which %d bytes lack: make the call again" % (self.peer, length - len(self.ahead)))
             block, self.ahead = self.ahead[:length], self.ahead[length:]
+            judge(block)
             file.write(block)
             length -= len(block)
         file.flush()
@@ -286,7 +349,8 @@ class Link:
                 raise Wrong("%s: no message that it may send: %s" % (self.peer, shown(line)))
             if length > self.limits.limit:
                 raise Wrong("%s: a message of %d bytes, and --limit is %d" % (self.peer, length, self.limits.limit))
-            return Message(word, self.receive(length), length)
+            judged = [Judged(self.peer, self.check_facts).add] if word in OF_ITEMS else []
+            return Message(word, self.receive(length, *judged), length)
         raise Wrong("%s: it says that it works, again and again, and nothing else" % self.peer)
 
     @contextlib.contextmanager
@@ -338,12 +402,10 @@ class Link:
             raise Wrong("%s: it answers before it was asked" % self.peer)
         return found
 
-    def checked(self, items):
-        """The items, of which none has more facts than this end takes at once."""
-        for each in items:
-            if each.kind in ("facts", "some") and each.length > self.limits.facts:
-                raise Wrong("%s: %s: facts of %d bytes, and --facts is %d" % (self.peer, each.part, each.length, self.limits.facts))
-        return items
+    def check_facts(self, part, kind, length):
+        """Raises that an item has more facts than this end takes at once."""
+        if kind in ("facts", "some") and length > self.limits.facts:
+            raise Wrong("%s: %s: facts of %d bytes, and --facts is %d" % (self.peer, part, length, self.limits.facts))
 
     def answer(self, word):
         """The answer to a request that was sent, which has that word. Raises the fault that the other end tells."""

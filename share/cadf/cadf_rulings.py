@@ -16,7 +16,9 @@ import tempfile
 from typing import NamedTuple
 
 from cadf_budget import BYTES, SECONDS, confine
+from cadf_index_file import keep_refused_signatures, refused_signatures
 from cadf_question import text_typed
+from cadf_site import Folder, is_folder
 from cadf_toolkit import Fault, is_log_name, name_shown, opened, printable, started, with_digest
 
 EVENT, RULING = "E", "U"
@@ -26,8 +28,14 @@ ACTION, REASON, MADE_BY, NAMESPACE = "evaluate/ruling", "cadf/ruling", "cadf-con
 PREFIX, NODE = NAMESPACE + ":", b'\n[1,0,"U"]\n'
 LONGEST_WHY, LONGEST_BODY, LONGEST_SIGNATURE = 2 ** 12, 2 ** 16, 2 ** 14  # characters
 ARMOR = re.compile(r"-----BEGIN SSH SIGNATURE-----\n([A-Za-z0-9+/=\n]+)-----END SSH SIGNATURE-----\n?")
+NOT_VERIFIED = 255  # ssh-keygen's status
 MAGIC = b"SSHSIG\0\0\0\1"
 NO_SIGNER = "install ssh-keygen (Debian: openssh-client)"
+MOST_REFUSED, MOST_UNKEPT = 2 ** 18, 100  # refused signatures that a site's index keeps; new ones that are lost if a call is ended
+# With which ssh-keygen's last line ends if the signature itself is at fault. It says nothing of a key that is another person's.
+AT_FAULT = re.compile(rb"(?s)|.*(?:incorrect signature|invalid format|incomplete message|string is too large|namespace does not match|key type does not match|"
+                      rb"signature algorithm not supported|unexpected bytes remain after decoding|Signature contains trailing data)\r?\n")
+CHANGING = b"cert-authority", b"valid-after", b"valid-before"  # words of a file of allowed signers, with which an answer may change by itself
 
 
 def canonical(value):
@@ -162,6 +170,46 @@ def signed(record, log, key):
     return found
 
 
+class Refused:
+    """The signatures for a site that ssh-keygen has refused, by keys, as the index of a folder keeps them. One that it accepts is asked each time.
+
+    So who can write an index has no forged signature be taken, and strangers, who can't make one that is accepted, have each cost one call for good.
+    """
+
+    def __init__(self):
+        self.site, self.keys, self.new = None, None, set()
+
+    def of(self, site):
+        """Has it be those of a site, of that name."""
+        if site != self.site:
+            self.keep()
+            self.site, self.keys = site, None
+
+    def has(self, key):
+        if self.keys is None:
+            self.keys = set()
+            if self.is_kept():
+                with Folder(self.site) as folder:
+                    self.keys = refused_signatures(folder)
+        return key in self.keys
+
+    def add(self, key):
+        self.keys.add(key)
+        self.new.add(key)
+        if len(self.new) == MOST_UNKEPT:
+            self.keep()
+
+    def keep(self):
+        """Keeps the new ones."""
+        if self.new and self.is_kept():
+            with Folder(self.site) as folder:
+                keep_refused_signatures(folder, self.new, MOST_REFUSED)
+        self.new = set()
+
+    def is_kept(self):
+        return self.site is not None and is_folder(self.site)
+
+
 class Allowed:
     """Who may sign, as a file of ssh-keygen's allowed signers has it."""
 
@@ -172,6 +220,8 @@ class Allowed:
         self.file.write(data)
         self.file.flush()
         self.keys = None if b"cert-authority" in data else set(data.split())
+        self.digest, self.is_lasting = hashlib.sha256(data).hexdigest(), not any(word in data.lower() for word in CHANGING)
+        self.refused = Refused()
 
     def has_key(self, signature):
         """Whether the key that a signature names is in the file, which costs no program."""
@@ -188,17 +238,21 @@ class Allowed:
         return any(self.is_good(log, record, each) for each in signatures if self.has_key(each))
 
     def is_good(self, log, record, signature):
-        """Whether ssh-keygen accepts a signature, which is asked once."""
+        """Whether ssh-keygen accepts a signature, which is asked once, also by later calls if it refuses one for a folder."""
         if (record, signature) not in self.known:
-            self.known[record, signature] = self.is_accepted(log, record, signature)
+            key = hashlib.sha256(canonical([self.digest, record.text(log), signature]).encode()).digest()
+            self.known[record, signature] = not (self.is_lasting and self.refused.has(key)) and self.is_accepted(log, record, signature, key)
         return self.known[record, signature]
 
-    def is_accepted(self, log, record, signature):
+    def is_accepted(self, log, record, signature, key):
         with tempfile.NamedTemporaryFile() as file:
             file.write(signature.encode())
             file.flush()
             words = ["verify", "-f", self.file.name, "-I", record.who, "-s", file.name]
-            return run_keygen(words, record.text(log), preexec_fn=lambda: confine(SECONDS, BYTES))[0] == 0
+            status, _, said = run_keygen(words, record.text(log), preexec_fn=lambda: confine(SECONDS, BYTES))
+        if self.is_lasting and status == NOT_VERIFIED and AT_FAULT.fullmatch(said):
+            self.refused.add(key)
+        return status == 0
 
     def has_ruled(self, records, ruling):
         """Whether a ruling has a record that is signed by who is named."""

@@ -75,12 +75,14 @@ class Welcome:
         left = set(rulings)
         if self.allowed is None:
             return left
+        self.allowed.refused.of(site)
         for records in (lambda: atoms_in(inputs), lambda: records_of_site(site)):
             if left:
                 found = Records(log)
                 for atom in filter(is_of_record, records()):
                     found.add(atom)
                 left = {each for each in left if not self.allowed.has_ruled(found, each[1:])}
+        self.allowed.refused.keep()
         return left
 
     def new(self, file, own, log, inputs, site):

@@ -1,20 +1,28 @@
 """Who ruled, when and why: records of rulings, their signatures, and at which of them somebody has looked."""
+import contextlib
 import functools
 import hashlib
 import json
 import os
 import re
+import shutil
+import sqlite3
 import subprocess
+import sys
 
 import pytest
 
-from tests import text_of
+from tests import TOP, text_of
 from tests.machine import ended
 from tests.reference.events import document
 from tests.reference.replica_files import file_of, read_file
 from tests.tools.copies import is_caught
 from tests.tools.test_site_folders import EVENT, Site
 from tests.tools.test_tools_of_folders import Sites
+
+sys.path.insert(0, os.path.join(TOP, "share", "cadf"))
+import cadf_index_file
+import cadf_site
 
 pytestmark = pytest.mark.needs("ssh-keygen")
 KINDS = {"E": "data/event", "G": "data/geolocation", "M": "data/metric", "P": "data/property", "R": "data/resource"}
@@ -172,6 +180,78 @@ def test_a_forged_signature_is_none(sites, forge):
     assert sites.says("--verify", "allowed")[1][0] == 'ruled by "ann" at %s, signed: "x"' % WHEN
 
 
+def counted(sites):
+    """Has the tools start an ssh-keygen that counts, and returns what tells how many were started since it was asked last."""
+    (sites.path / "bin").mkdir()
+    (sites.path / "bin" / "ssh-keygen").write_text("#!/bin/sh\necho >>%s\nexec %s \"$@\"\n" % (sites.path / "count", shutil.which("ssh-keygen")))
+    (sites.path / "bin" / "ssh-keygen").chmod(0o755)
+    sites.environment["PATH"] = "%s:%s" % (sites.path / "bin", os.environ["PATH"])
+
+    def count():
+        (sites.path / "count").touch()
+        found = (sites.path / "count").read_text().count("\n")
+        (sites.path / "count").write_text("")
+        return found
+
+    return count
+
+
+def forged(sites, count):
+    """Rulings with records of that many texts, each with ann's signature of another text."""
+    signature = sites.sign("ann", record_of("g", "E", "e", sites.digest("E1"), "ann", WHEN, "what she ruled")[0])
+    for number in range(count):
+        atom = "E", *record_of("g", "E", "e", sites.digest("E1"), "ann", WHEN, "x%d" % number)[1:]
+        yield from (atom, signature_atom(atom, signature))
+
+
+def test_a_forged_signature_costs_one_program(sites):
+    """Each later call passes over what was refused for these signers. What is accepted is asked again, and where an answer may change all is."""
+    sites.rules("--sign", "ann")
+    sites.take("rulings.cadf")
+    sites.take(sites.put("forged.cadf", set(forged(sites, 20))))
+    count, signed = counted(sites), 'ruled by "ann" at %s, signed' % WHEN
+    for _ in range(3):
+        assert sites.says("--verify", "allowed")[1][0] == signed
+    assert count() == 20 + 3
+    (sites.path / "allowed").write_text("# again\n" + (sites.path / "allowed").read_text())
+    sites.says("--verify", "allowed")
+    assert count() == 20 + 1
+    (sites.path / "north" / ".index").unlink()
+    sites.says("--verify", "allowed")
+    assert count() == 20 + 1
+    (sites.path / "until").write_text('ann valid-before="29990101" ' + (sites.path / "ann.pub").read_text())
+    for _ in range(2):
+        assert sites.says("--verify", "until")[1][0] == signed
+        assert count() == 20 + 1
+
+
+def test_a_ruling_that_is_not_taken_costs_one_program(sites):
+    """A file that is sent again and again, with records of a ruling that nobody has signed."""
+    sites.put("forged.cadf", {("U", "E", "e", sites.digest("E1")), *forged(sites, 20)})
+    count = counted(sites)
+    for wanted in (20, 0):
+        sites.take("--rulings-by", "allowed", "forged.cadf", status=1)
+        assert count() == wanted
+
+
+def test_refused_signatures_that_are_kept(sites):
+    """There are at most so many, the latest."""
+    with cadf_site.Folder(str(sites.path / "north")) as folder:
+        for number in range(3):
+            cadf_index_file.keep_refused_signatures(folder, [b"%032d" % each for each in range(10 * number, 10 * number + 10)], 25)
+        found = cadf_index_file.refused_signatures(folder)
+    assert len(found) == 25 and {b"%032d" % each for each in range(20, 30)} <= found
+
+
+def test_an_index_has_no_forged_signature_taken(sites):
+    """Whoever writes it, each good signature is that of the call: an index says at most that one is none."""
+    sites.take(sites.put("forged.cadf", {("U", "E", "e", sites.digest("E1")), *forged(sites, 1)}))
+    assert sites.says("--verify", "allowed")[1] == ['ruled by "ann" at %s, claimed: "x0"' % WHEN]
+    with contextlib.closing(sqlite3.connect(str(sites.path / "north" / ".index"))) as index, index:
+        assert index.execute("UPDATE kept SET value = 'good' WHERE kind = 'refused signatures'").rowcount == 1
+    assert sites.says("--verify", "allowed")[1] == ['ruled by "ann" at %s, claimed: "x0"' % WHEN]
+
+
 def test_many_claims(sites):
     """They are shown so far as a person reads, those that are signed first; what they cost is a look each."""
     sites.rules("--sign", "ann")
@@ -283,7 +363,11 @@ def test_a_scrub_keeps_what_was_seen(sites):
 
 
 @pytest.mark.parametrize("check, words, right, wrong", [
-    (test_a_forged_signature_is_none, ["of another reason"], "return run_keygen(words, record.text(log), preexec_fn=lambda: confine(SECONDS, BYTES))[0] == 0", "return True"),
+    (test_a_forged_signature_is_none, ["of another reason"], "return status == 0", "return True"),
+    (test_a_forged_signature_costs_one_program, [], "self.refused.add(key)", "pass"),
+    (test_a_forged_signature_costs_one_program, [], "canonical([self.digest, record", "canonical([record"),
+    (test_a_forged_signature_costs_one_program, [], "b\"valid-before\"", "b\"x-before\""),
+    (test_a_ruling_that_is_not_taken_costs_one_program, [], "self.allowed.refused.of(site)", "pass"),
     (test_a_forged_signature_is_none, ["of a changed body"], "found.body() == body and ", ""),
     (test_a_forged_signature_is_none, ["in another name"], '"-I", record.who, ', '"-I", "ann", '),
     (test_who_when_and_why, [False], " or is_of_record(atoms[0]):", ":"),

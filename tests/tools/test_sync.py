@@ -480,6 +480,37 @@ def test_a_far_side_without_an_end(sites, mode, data, words, part):
     assert answer.status in (1, 3) and part in said(answer), answer
 
 
+INVENTORY, SKETCH = b'CADF-INVENTORY 1\nL "g"\n', b'CADF-SKETCH 1\nL "g"\nS 3000000 1 %s\nC %s\n' % (DIGEST, b" ".join([b"0"] * 65))
+OF_ITS_KIND = {
+    "an inventory's line without an end": (b"inventory", INVENTORY + b"a" * 67, 3), "an inventory's short lines": (b"inventory", INVENTORY + b"a" * 64 + b"\n\n", 4),
+    "a cell without an end": (b"sketch", SKETCH + (b"0" * 80 + b"\n") * 2 + b"0" * 81, 7), "short cells": (b"sketch", SKETCH + b"0\n", 5),
+    "a log's name without an end": (b"sketch", b"CADF-SKETCH 1\nL " + b"g" * 9000, 2)}
+
+
+def announced(word, kind, data):
+    """The beginning of a message of a gigabyte, of which no more comes."""
+    table = b"all none 0\n" * (word == b"answer") + b"all %s 999999000\n\n" % kind
+    return b"%s %d\n" % (word, len(table) + 999999000) + table + data + b"-" * 5000
+
+
+@pytest.mark.parametrize("kind", OF_ITS_KIND)
+def test_a_line_that_is_none_of_its_kind(sites, kind):
+    """It ends the exchange as it comes, at either end, and not when all that was announced has come."""
+    sites.put("here.cadf", facts(1))
+    kind, data, line = OF_ITS_KIND[kind]
+    answer = sites.lied_to(FIRST + LIST + announced(b"answer", kind, data), mode="mute", timeout=60)
+    wanted = "the %s of all: line %d: shape: no line of such a file is so long, or so short" % (kind.decode(), line)
+    assert (answer.status, said(answer)) == (1, "cadf-sync: h:there.cadf: %s\n" % wanted)
+    answer = sites.served(hello() + announced(b"ask", kind, data))
+    assert answer.status == 1 and answer.output.endswith(b"1 the peer: " + wanted.encode()), answer
+
+
+def test_facts_that_are_too_long_are_not_waited_for(sites):
+    sites.put("here.cadf", facts(1))
+    answer = sites.lied_to(FIRST + LIST + announced(b"answer", b"facts", b""), mode="mute", timeout=60)
+    assert answer.status == 1 and said(answer).endswith("all: facts of 999999000 bytes, and --facts is 67108864\n"), answer
+
+
 def test_a_small_limit_is_refused(sites):
     """One below 2^20 bytes of a message, of a peer's or of this end's own."""
     sites.put("here.cadf", facts(1))
