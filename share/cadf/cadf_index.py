@@ -307,7 +307,7 @@ class EventIndex:
         self.run("INSERT OR IGNORE INTO touched SELECT key FROM bodies WHERE window IN gone AND key IN several")
         for column in COLUMNS:
             self.run("INSERT OR IGNORE INTO freed_{0} SELECT DISTINCT {0} FROM bodies WHERE window IN gone".format(column))
-        self.run("DELETE FROM places WHERE key IN touched AND window IN gone")
+        self.run("DELETE FROM places WHERE window IN gone")
         self.run("DELETE FROM bodies WHERE window IN gone")
         self.run("DELETE FROM windows WHERE id IN gone")
 
