@@ -174,6 +174,8 @@ COUNTED = [
     (("[", "0,", MOST, "0]"), [False, False, True, MOST + 1, 1]),
     (('{"a":[', "{},", MOST, "{}]}"), [False, True, False, 1, 3]),
     (("[", '{"":[]},', MOST, "0]"), [False, False, True, MOST + 1, 3]),
+    # One text of more than 64 KiB.
+    (('["', "0123", MOST, '4"]'), [False, False, True, 1, 1]),
 ]
 
 # Texts, each read into the memory of another one's value, and what is told of it.

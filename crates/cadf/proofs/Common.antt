@@ -8,6 +8,7 @@ pub use Rattle.cadf_arguments.specs.Arguments.{is_place, is_site_count, unit_nam
 pub use Rattle.cadf_arguments.specs.declared.fault.ArgumentFault.TheVariants.{Cells, Key, Letter, LogName, Place, Salt, Sites, Unit as NoUnit}
 pub use Rattle.cadf_atom.proofs.RulingTexts.{value_letter_is}
 pub use Rattle.cadf_join.specs.Contents.{Text}
+pub use Rattle.cadf_json.specs.Std.{std_inner}
 pub use Rattle.cadf_line.specs.RulingTexts.{is_value_letter}
 pub use Rattle.cadf_sketch.specs.Layouts.{are_cells, is_salt}
 pub use Rattle.cadf_tool.specs.Inputs.{SourceState, source_state}
@@ -19,7 +20,7 @@ pub use Rattle.cadf_words.specs.Synopsis.{IsAsked, MakesRequest}
 pub use Rattle.cadf_words.specs.declared.request.Request.{Request}
 pub use Rattle.cadf_words.specs.declared.request.Request.TheVariants.{Check, Grew, Growth, Inventory, Join, Missing, MissingBy, MissingBySketch, Omit, Prove, Rehearse, Rule, Seal, Sealed, Show, Sketch, Split, Verify}
 pub use Rattle.clap.specs.Walk.{Row}
-pub use Rattle.std.proofs.Common.{Bool, Err, IfErr, IfOk, IsErrAnd, IsSomeAnd, List, MatchResult, None, Ok, Option, Result, Some, [], add-one, ap, append_assoc, arith, bytes_eq, drop, drop-cons, false, get_or, if◌then◌else◌, inr, is_ok, length, ltb, map, nat_le, nat_lt, ok_or, option_map, refl, rules, subst, suc, sym, take, take-suc, true, true≢false, zero, ℕ, ◌&&◌, ◌++◌, ◌+◌, ◌<◌, ◌∙◌, ◌∷◌, ◌≡◌, ◌≢◌, ◌≤◌}
+pub use Rattle.std.proofs.Common.{Bool, Err, IfErr, IfOk, IsErrAnd, IsSomeAnd, List, MatchResult, None, Ok, Option, Result, Some, [], add-one, ap, append_assoc, arith, bytes_eq, drop, drop-cons, false, get_or, if◌then◌else◌, inl, inr, is_ok, length, ltb, map, nat_le, nat_lt, ok_or, option_map, refl, rules, subst, suc, sym, take, take-suc, true, true≢false, zero, ℕ, ◌&&◌, ◌++◌, ◌+◌, ◌<◌, ◌∙◌, ◌∷◌, ◌≡◌, ◌≢◌, ◌≤◌}
 pub use Rattle.std.proofs.lemmas.Bool.{and_from, and_parts, le-leb, leb-true, lt-ltb, ltb-false, ltb-true}
 pub use Rattle.std.proofs.lemmas.Fmt.{decimal-digits_value, decimal_digit, first_decimal, parse-decimal}
 pub use Rattle.std.proofs.lemmas.List.{length-append, length-map, map-append, take-append-drop}
@@ -29,6 +30,8 @@ pub use Rattle.std.proofs.lemmas.Str.{encode_ascii, encode_same}
 pub use Rattle.std.proofs.lemmas.Str.Parse.{IsNumeralModel, numerals_by_value, parse_plain, tells_digits}
 pub use Rattle.std.specs.Borrow.{Bor}
 pub use Rattle.std.specs.Char.{IsScalar}
+pub use Rattle.std.specs.Io.Buffered.{writer_contents}
+pub use Rattle.std.specs.Io.KnownBytes.{Keeps}
 pub use Rattle.std.specs.Prelude.{decimal, encode_utf8, ◌^◌}
 pub use Rattle.std.specs.Result.{result_map_both, result_ok}
 pub use Rattle.std.specs.Str.Parse.{AllDigits, ParsesUnsigned, digits_value}

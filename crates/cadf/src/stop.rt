@@ -1,15 +1,13 @@
 //! Why a command failed, and how that is reported.
-ghost use Rattle.std.specs.Prelude.{◌≡◌};
+ghost use Rattle.std.specs.Prelude.{Err};
 ghost use Rattle.std.specs.Process.{exit_status};
-ghost use Rattle.cadf.specs.Run.{stop_status};
+ghost use Rattle.cadf.specs.Ended.{IsEnded};
 
+use crate::console::Console;
 use cadf_arguments::ArgumentFault;
 use cadf_tool::{ToolFault, status};
 use std::process::ExitCode;
 use thiserror::Error;
-
-/// The exit status if the command line is refused.
-pub(crate) const REFUSED: u8 = 2;
 
 /// Why a command failed.
 #[derive(Debug, Drop, Error)]
@@ -21,11 +19,11 @@ pub(crate) enum Stop {
     Argument(ArgumentFault),
 }
 
-/// Reports on standard error why the command failed, and returns the exit status.
-pub(crate) fn report(rt: &HostRuntime, stop: &Stop) -> ExitCode
-    ensures { exit_status result ≡ stop_status stop.now }
+/// Prints why the command failed, and returns the exit status.
+pub(crate) fn report<C: Console>(console: &mut C, stop: &Stop) -> ExitCode
+    ensures { IsEnded (Err stop.now) (C.printed console.old) (C.printed console.new) (exit_status result) }
 {
-    let _ = eprintln!(rt; "cadf: {stop}");
+    let _ = console.print_fault(stop);
     ExitCode::from(match stop {
         Stop::Tool(fault) => status(fault),
         Stop::Argument(fault) => fault.status(),
