@@ -86,11 +86,13 @@ class PeerLedger(Levels):
 
     @contextlib.contextmanager
     def charged(self, items):
-        """A context in which the items are taken, for what then the peer is charged."""
+        """A context in which the items are taken, for what then the peer is charged, also if that ends before all of them are."""
         before = self.files(items)
-        yield
-        after = self.files(items)
-        self.add("bytes", sum(each.length for each in items))
-        self.add("windows", len(list(filter(is_far, after.keys() - before.keys()))))
-        self.add("rereads", sum(sum(before[part].values()) for part in before if is_far(part) and after.get(part) != before[part]))
-        self.note()
+        try:
+            yield
+        finally:
+            after = self.files(items)
+            self.add("bytes", sum(each.length for each in items))
+            self.add("windows", len(list(filter(is_far, after.keys() - before.keys()))))
+            self.add("rereads", sum(sum(before[part].values()) for part in before if is_far(part) and after.get(part) != before[part]))
+            self.note()

@@ -244,6 +244,22 @@ def test_processor_time_of_a_day(place):
     assert left == ["c.jsonl"] and stay(1, "more than --sender-seconds a day") in said
 
 
+def test_many_files_of_one_name(place):
+    """A further one doesn't have all of them looked for: the days' files are in taken/, and each run would pay for it."""
+    place.run_once()
+    program = place.program()
+    for name in ["a.json"] + ["a-%d.json" % number for number in range(2, 3000)]:
+        put(os.path.join(place.spool, "taken", name), b"")
+    spool, looked = program.Spool(place.spool), []
+    right, spool.is_used = spool.is_used, lambda name: looked.append(name) or right(name)
+    names = set()
+    for _ in range(3):
+        names.add(spool.unused("a.json"))
+        put(os.path.join(place.spool, "taken", max(names)), b"")
+    os.close(spool.lock)
+    assert len(names) == 3 and len(looked) < 300 and not names & {"a-%d.json" % number for number in range(3000)}
+
+
 def test_hard_links(place):
     """A file under several names stays until it has one: each name would be a copy."""
     place.send("a.json", event("a", "2024-03-01T12:00:00Z"))
@@ -518,6 +534,7 @@ def test_files_that_are_claimed_wait_if_their_sender_has_cost_too_much(shared):
 @pytest.mark.parametrize("check, texts", [
     (test_files_that_nobody_closes, ["if self.named <= MOST_SAID:", "if True:"]),
     (test_no_file_without_bytes_makes_others_wait, ["for name, size in self.bytes_waiting().items():", "for name, size in ((name, each.st_size) for name, each in self.waiting().items()):"]),
+    (test_many_files_of_one_name, ["+= 2 ** (tries // FEW_OF_A_NAME)", "+= 1"]),
     (test_hard_links, ["found.st_nlink > 1", "found.st_nlink > 100"]),
     (test_bytes_of_a_day, ["if (made or part != self.spool.taking) and is_there(each, part):", "if False:"]),
     (test_bytes_of_a_day_of_any_file_system, ["max(found.st_blocks * 512, found.st_size if written is None else written)", "found.st_blocks * 512"]),

@@ -19,6 +19,9 @@ from tests.tools.test_sync import items, message
 
 from tests import TOP  # isort: skip
 sys.path.insert(0, os.path.join(TOP, "share", "cadf"))
+import cadf_ledgers
+from cadf_link import Item
+from cadf_peer import PeerLedger
 from cadf_toolkit import with_digest
 
 BASE = event("base", "2024-03-01T12:00:00Z")
@@ -124,6 +127,15 @@ def test_old_windows_of_a_peer(place):
     assert abs(place.levels()[3] - 2 * size) < 2
     _, _, answers = place.takes_of(*more, words=["--peer-rereads=%d" % (size + 1)])
     assert answers == [b"0\nW 2024-04-01\nW 2024-04-02\nW 2024-04-03\nW 2024-04-04\n"]
+
+
+def test_a_take_that_ends_early_is_charged(place):
+    """As one that is stopped, or finds a full disk, after some of the windows were taken."""
+    ledger = PeerLedger(str(place.path / "site"), "south", dict.fromkeys(cadf_ledgers.KINDS, 10 ** 12))
+    with pytest.raises(KeyboardInterrupt), ledger.charged([Item("2024-03-01", "facts", length=12345)]):
+        raise KeyboardInterrupt
+    levels = place.levels()
+    assert levels and levels[0] == 12345
 
 
 def test_seconds_of_a_peer(place):

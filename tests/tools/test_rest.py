@@ -265,6 +265,17 @@ def test_a_bus_fills_no_disk_by_what_is_refused(place):
     assert (place.path / "spool" / "taken" / "b.jsonl").read_text().endswith("b.jsonl is no event\n")
 
 
+def test_who_fills_set_aside_has_no_other_lose_refused_lines(place):
+    """Where somebody else has more than an equal share, what is refused of the caller's own files is set aside, and somebody mends it."""
+    arrives(place, "0.jsonl", *days("2024-02-01", 1))
+    assert place.spool().status == 0
+    (place.path / "spool" / "set-aside" / "much").write_bytes(b"-" * 10 ** 5)
+    (place.path / "spool" / "set-aside" / ".senders").write_text("%d much\n" % (os.getuid() + 1))
+    (place.path / "spool" / "a.jsonl").write_text("no event\n")
+    done = place.spool("--waiting", "50000")
+    assert done.status == 5 and sorted(place.lines()) == ["a.jsonl", "much"], done
+
+
 # ---- cadf-admit
 
 def test_admit(place):
@@ -378,7 +389,8 @@ def test_a_star_in_a_name_stands_for_no_other_file(place):
     (test_401_hostile_messages_keep_no_honest_one_out, ["if counts and (by or", "if False and (by or"]),
     (test_a_sender_takes_no_name_of_what_waits, ["or name.startswith(WAITS):", ":"]),
     (test_what_waits_waits_once, ["return done.status == DONE\n\n    def empty", "return True\n\n    def empty"]),
-    (test_a_bus_fills_no_disk_by_what_is_refused, ["        self.is_full = bool(beyond)\n", ""]),
+    (test_a_bus_fills_no_disk_by_what_is_refused, ["        self.is_full = os.geteuid() in beyond\n", ""]),
+    (test_who_fills_set_aside_has_no_other_lose_refused_lines, ["self.is_full = os.geteuid() in beyond", "self.is_full = bool(beyond)"]),
     (test_what_can_t_be_read_hides_no_other_file, ["if not stat.S_ISDIR(each.st_mode)}", "if stat.S_ISREG(each.st_mode)}"]),
     (test_what_can_t_be_read_hides_no_other_file, ["        except (Fault, OSError) as error:", "        except Fault as error:"]),
     (test_a_star_in_a_name_stands_for_no_other_file, [" and \"*\" not in name", ""]),

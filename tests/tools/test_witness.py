@@ -2,10 +2,13 @@
 import hashlib
 import os
 import re
+import resource
 import subprocess
+import threading
 
 import pytest
 
+from tests import patience
 from tests.machine import ended
 from tests.reference.growth_files import growth_of
 from tests.reference.list_files import ERASED, list_with, read_sealed_list, sealed_list_of
@@ -14,6 +17,7 @@ from tests.reference.site_growth_files import site_growth_of
 from tests.reference.site_seal_files import site_seal_of
 from tests.reference.split_files import parts_of
 from tests.tools.copies import is_caught
+from tests.tools.programs import writer_to
 from tests.tools.test_site_folders import DAYS, EVENT, TOOLS, atoms_of, contents, with_digest
 
 pytestmark = pytest.mark.needs("ssh-keygen")
@@ -266,6 +270,36 @@ def test_a_call_that_was_killed(begun):
 
 # ---- Two witnesses
 
+def test_a_site_makes_no_other_wait(begun, keys):
+    """Nobody has to wait for what the proof of another site's growth takes, here one that never comes."""
+    (begun.state / "allowed").write_text((begun.state / "allowed").read_text() + "south@example.org " + (keys / "stranger.pub").read_text())
+    os.mkfifo(str(begun.path / "endless"))
+    begun.seal("later", *LATER)
+    with subprocess.Popen([os.path.join(begun.tools, "cadf-witness"), "state", "later", "endless"], cwd=begun.path, env=begun.environment,
+                          stdout=subprocess.DEVNULL, stderr=subprocess.DEVNULL) as child:
+        writer = writer_to(str(begun.path / "endless"), child)
+        try:
+            begun.signs(begun.put("south", site_seal_of("g", atoms_of(EARLIER), "day")), "stranger")
+            words = [os.path.join(begun.tools, "cadf-witness"), "--first", "state", "south"]
+            other = subprocess.Popen(words, cwd=begun.path, env=begun.environment, stdout=subprocess.PIPE, stderr=subprocess.PIPE)
+            is_over = threading.Timer(patience.seconds(10), other.kill)
+            is_over.start()
+            said = other.communicate()[1]
+            is_over.cancel()
+            assert (other.returncode, said) == (0, b"cadf-witness: south@example.org: the first seal\n")
+        finally:
+            os.close(writer)
+            child.kill()
+
+
+def test_what_a_signature_may_cost(begun):
+    """Of one of a gigabyte no more is read than a signature has."""
+    with open(str(begun.path / "old.sig"), "ab") as file:
+        file.truncate(2 ** 30)
+    status, _, lines = begun.run("state", "old", preexec_fn=lambda: resource.setrlimit(resource.RLIMIT_AS, (2 ** 29, 2 ** 29)))
+    assert (status, lines) == (0, [])
+
+
 def test_two_witnesses(begun, keys, cadf):
     """One that is behind knows the other's chain by its own; of two pasts neither knows the other's last seal."""
     other = Witness(begun.path, keys, cadf, name="other")
@@ -314,7 +348,13 @@ def test_words(witness, words, said):
     (test_no_key, "    if status:\n        raise Fault(\"%s: ssh-keygen signs", "    if False:\n        raise Fault(\"%s: ssh-keygen signs"),
     (test_a_state_that_is_damaged, "or [each and each[2] for each in found] != chain[1:]", ""),
     (test_a_state_that_is_damaged, "if hashlib.sha256(data).hexdigest() != self.taken[-1].seal:", "if False:"),
+    (test_what_a_signature_may_cost, "signature.first(LONGEST_SIGNATURE)", "signature.whole()"),
     (test_a_chain, "if chain.taken and chain.last() == data:", "if False:"),
 ])
 def test_a_wrong_version_is_caught(tmp_path, keys, cadf, check, right, wrong):
     is_caught(tmp_path, (right, wrong), check, lambda tools: beginning(Witness(tmp_path, keys, cadf, tools)))
+
+
+def test_a_wrong_lock_is_caught(tmp_path, keys, cadf):
+    is_caught(tmp_path, ("fcntl.LOCK_EX, 1, int(self.digits[:15], 16))", "fcntl.LOCK_EX)"), test_a_site_makes_no_other_wait,
+              lambda tools: beginning(Witness(tmp_path, keys, cadf, tools)), keys)
