@@ -104,12 +104,14 @@ def hash_of_text(text):
     return int.from_bytes(hashlib.sha256(text.encode()).digest()[:8], "big", signed=True)
 
 
-def lines_at(each, begin, length, found):
-    """The lines of a key in an open file, which have to be those that were read there before."""
-    lines = each.bytes_at(begin, length)
-    if hash_of(lines) != found:
-        raise Fault("%s: %s" % (each.name, DAMAGED), REFUSED)
-    return lines
+def lines_at(each, places):
+    """Yields the lines of keys at places in an open file, which have to be those that were read there before."""
+    with each.judged():
+        for begin, length, found in places:
+            lines = os.pread(each.file.fileno(), length, begin)
+            if hash_of(lines) != found:
+                raise Fault("%s: %s" % (each.name, DAMAGED), REFUSED)
+            yield lines
 
 
 def size_of(files):
@@ -209,8 +211,9 @@ def row_of(body, steps, texts):
         if len(body) + sum(map(len, steps)) <= LARGEST_BODY:
             event = value_in(body)
             found = traits(event, map(value_in, steps))
-            own = [tuple(found.pop(column)) for column in COLUMNS[:2]] + [tuple((kind, tuple(each)) for kind, each in found.items())]
-            return (*divmod(instant(event["eventTime"]), SECOND), *(numbers[each] for numbers, each in zip(texts, own)))
+            initiators, targets, others = texts
+            initiator, target = initiators[tuple(found.pop("initiator"))], targets[tuple(found.pop("target"))]
+            return (*divmod(instant(event["eventTime"]), SECOND), initiator, target, others[tuple(zip(found, map(tuple, found.values())))])
     except MALFORMED:
         pass
     return None, 0, 0, 0, 0
@@ -429,12 +432,12 @@ class EventIndex:
         """The windows that keys with several bodies are in."""
         return {part for part, in self.run("SELECT DISTINCT name FROM places JOIN windows ON windows.id = window")}
 
-    def places(self, keys):
-        """Where the lines of keys with several bodies are: by window and file their places there, by key."""
-        found = collections.defaultdict(dict)
-        for each in keys:
-            for key, part, digest, *place in self.run("SELECT key, name, digest, begin, length, hash FROM places JOIN windows ON windows.id = window WHERE key = ?", (each,)):
-                found[part, digest][key] = place
+    def places(self, keys=None):
+        """Where the lines of keys with several bodies are, or of all such keys: by window and file their places there, by key."""
+        found, look = collections.defaultdict(dict), "SELECT key, name, digest, begin, length, hash FROM places JOIN windows ON windows.id = window"
+        rows = self.run(look) if keys is None else itertools.chain.from_iterable(self.run(look + " WHERE key = ?", (each,)) for each in keys)
+        for key, part, digest, *place in rows:
+            found[part, digest][key] = place
         return dict(found)
 
     def sizes(self):

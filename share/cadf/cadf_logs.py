@@ -1,6 +1,7 @@
 """What the tools read of the texts that cadf writes: atoms, a value after another, and the instants of events."""
 import codecs
 import datetime
+import functools
 import json
 import re
 
@@ -17,14 +18,23 @@ def instant(text):
     found = TIME.fullmatch(text)
     if not found:
         return None
-    *parts, fraction, zone = found.groups("0")
-    year, month, day, hour, minute, second = map(int, parts)
+    year, month, day, hour, minute, second, fraction, zone = found.groups("0")
+    days = days_before(year, month, day)
+    if days is None:
+        return None
+    minutes = days * 1440 + int(hour) * 60 + int(minute)
+    if zone not in ("0", "Z"):
+        minutes -= int(zone[0] + "1") * (int(zone[1:3]) * 60 + int(zone[4:]))
+    return (minutes * 60 + int(second)) * 10 ** 9 + int(fraction.ljust(9, "0"))
+
+
+@functools.lru_cache(1024)  # most events of a log are of few days
+def days_before(year, month, day):
+    """The days from the day before the year 1 to a date of such digits; None if it is none of the calendar."""
     try:
-        days = datetime.date(year or YEARS, month, day).toordinal() - (0 if year else DAYS)
+        return datetime.date(int(year) or YEARS, int(month), int(day)).toordinal() - (0 if int(year) else DAYS)
     except ValueError:
         return None
-    minutes = hour * 60 + minute - (0 if zone in ("0", "Z") else int(zone[0] + "1") * (int(zone[1:3]) * 60 + int(zone[4:])))
-    return ((days * 1440 + minutes) * 60 + second) * 10 ** 9 + int(fraction.ljust(9, "0"))
 
 
 def utc(nanoseconds):

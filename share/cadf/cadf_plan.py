@@ -14,7 +14,6 @@ from cadf_index_file import keep, planned
 from cadf_keys import NODES, RULINGS, Windows, at_once, contents, keys_in, rulings_in, rulings_of, spelled
 from cadf_logs import Range
 from cadf_question import Pattern, Question
-from cadf_rulings import ACTION
 from cadf_site import CHANGED, SHARED, TRIES, opened_parts
 from cadf_toolkit import Fault, grouped, most_files, opened
 
@@ -25,7 +24,7 @@ OTHERS = 64  # files that are open beside those of a site
 
 def lines_of(each, places):
     """Yields the lines at the places of keys in an open file, in the file's order."""
-    return (lines_at(each, *place) for place in sorted(places.values()))
+    return lines_at(each, sorted(places.values()))
 
 
 def ruled_in(folder):
@@ -59,7 +58,7 @@ class Plan(Windows):
             apart = set().union(ruled_in(folder), *shown.values()) if of_several else set()
             self.counts = (Counter() if is_only_open else index.counts(count_by), *index.counts_of_several(count_by, apart))
             of_several = {part: keys & apart for part, keys in of_several.items()}
-        for part in self.within(question.limits, [part for part in site.parts() if part != SHARED]):
+        for part in self.within(question.limits, self.windows_asked(index)):
             own = of_several.get(part, set())
             if self.counts is not None:
                 keys = b"".join(own if is_only_open else own | shown.get(part, set()))
@@ -75,6 +74,12 @@ class Plan(Windows):
         self.open = {part for parts in self.several.values() if len(parts) == 1 for part in parts}
         self.places, self.sizes = index.places(several), index.sizes()
         self.parts = [*([SHARED] if several else []), *sorted({*self.keys, *(part for part, _ in self.places)})]
+
+    def windows_asked(self, index):
+        """The windows that whole identifiers are in, if such are asked for; else all."""
+        asked = self.question.patterns.get("id", ()) if self.question.has_ids else ()
+        found = set().union(*(index.windows_with(key_of(spelled(each.text()))) for each in asked))
+        return [part for part in self.site.parts() if part != SHARED and (part in found or not asked)]
 
     def take(self, inputs):
         """Takes the files of its parts, which are open, and puts together what has to be. Returns whether all of them could be read."""
@@ -183,12 +188,13 @@ class Picked(Windows):
         super(Windows, self).__init__(working)
         self.site, self.head, self.names = site, b"L %s\n" % site.log.encode(), []
         several = index.several()
-        self.places, self.sizes, self.keys = index.places(several), index.sizes(), {}
+        self.places, self.sizes, self.keys = index.places(), index.sizes(), {}
         for key in wanted - several:
             for part in index.windows_with(key):
                 self.keys.setdefault(part, set()).add(key)
         self.records, self.new = {}, {}  # where the lines of records are in windows, as was noted or is found; of each file a list
         if with_records:
+            from cadf_rulings import ACTION
             index.ask(Question(Range(None, None), {"action": [Pattern(ACTION)]}))
             noted = index.kept(RECORDS)
             for part, digests in site.parts().items():
@@ -228,8 +234,7 @@ class Picked(Windows):
     def lines_in(self, part, digest, each):
         """Yields the lines of each key in a window's file. Where those of its records are is noted, so that it isn't read whole again for them."""
         yield from lines_of(each, self.places.get((part, digest), {}))
-        for begin, length, found in self.records.get(part, {}).get(digest, ()):
-            yield lines_at(each, begin, length, found)
+        yield from lines_at(each, self.records.get(part, {}).get(digest, ()))
         if part in self.keys or part in self.new:
             records, places = self.new.get(part, (frozenset(), {}))
             for key, lines, (_, begin, length, found) in located({digest: each}):

@@ -89,8 +89,8 @@ def texts(value):
 
 def party(holder, role):
     """The identifiers of what has a role in an event or a step, and its name."""
-    own = holder.get(role)
-    found = (own.get("id"), holder.get(role + "Id"), own.get("name")) if isinstance(own, dict) else (holder.get(role + "Id"),)
+    own, other = holder.get(role), holder.get(role + "Id")
+    found = (own.get("id"), other, own.get("name")) if isinstance(own, dict) else (other,)
     return [each for each in found if isinstance(each, str)]
 
 
@@ -103,8 +103,12 @@ def steps(event):
 def traits(event, its_steps):
     """What an event with these steps has that a pattern may match, as lists of texts."""
     found = {"action": texts(event.get("action")), "outcome": texts(event.get("outcome")), "type": texts(event.get("eventType"))}
-    found.update({role: party(event, role) for role in ROLES})
-    found["via"] = sorted({each for step in its_steps for each in party(step, "reporter")})
+    for role in ROLES:
+        found[role] = party(event, role)
+    via = set()
+    for step in its_steps:
+        via.update(party(step, "reporter"))
+    found["via"] = sorted(via)
     return found
 
 

@@ -171,6 +171,11 @@ class Index:
         return Index(self.log, self.unit, lines, self.gone, self.erased)
 
 
+def state_of(found):
+    """What is another one of a file once it is written to, by what the system says of it."""
+    return found.st_dev, found.st_ino, found.st_size, found.st_mtime_ns, found.st_ctime_ns
+
+
 class Folder:
     """A folder that is open: whatever is renamed around it, names are looked up in it.
 
@@ -247,15 +252,14 @@ class Folder:
 
     def index(self):
         """What `site` says, or None if it isn't there. It is read once, until another file has its name or it is written to."""
-        try:
-            file = self.input(INDEX).file
-        except FileNotFoundError:
-            return None
-        with contextlib.ExitStack() as files, self.reading(INDEX):
-            files.enter_context(file)
-            found = os.fstat(file.fileno())
-            state = found.st_dev, found.st_ino, found.st_size, found.st_mtime_ns, found.st_ctime_ns
-            if state != self.read[0]:
+        if not self.is_as_read():
+            try:
+                file = self.input(INDEX).file
+            except FileNotFoundError:
+                return None
+            with contextlib.ExitStack() as files, self.reading(INDEX):
+                files.enter_context(file)
+                state = state_of(os.fstat(file.fileno()))
                 data = file.read(LONGEST_INDEX)
                 if OTHER_VERSION.match(data):
                     raise Fault("%s: %s" % (self.shown(INDEX), LATER), REFUSED)
@@ -266,6 +270,12 @@ class Folder:
         if self.read[1] is None:
             raise Fault("%s: not the file of a site: %s" % (self.shown(INDEX), LOST), REFUSED)
         return self.read[1]
+
+    def is_as_read(self):
+        """Whether `site` is the file that was read last, and wasn't written to."""
+        with contextlib.suppress(OSError):
+            return state_of(os.stat(INDEX, dir_fd=self.descriptor, follow_symlinks=False)) == self.read[0]
+        return False
 
     def check(self, part):
         """Raises why a part is left out, if it is."""

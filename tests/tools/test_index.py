@@ -152,18 +152,19 @@ def test_places(tmp_path):
     chance = random.Random(11)
     atoms = facts(chance, 60)
     folder = folder_of(tmp_path / "site", atoms, "day", chance)
-    places = planned(folder, lambda index, _: index.places(index.several()))
+    places, every = planned(folder, lambda index, _: (index.places(index.several()), index.places()))
+    assert places == every
     found, names = collections.defaultdict(set), {(part, digest): file_name(part, digest) for part, own in windows_in(folder).items() for digest in own}
     with Folder(str(folder)) as site:
         for entry, own in places.items():
             each = site.input(names[entry])
             for key, place in own.items():
-                lines = cadf_index.lines_at(each, *place)
+                lines, = cadf_index.lines_at(each, [place])
                 name, = keys_of(lines)
                 assert cadf_index.key_of(spelled(name)) == key
                 found[name].add(entry)
                 with pytest.raises(Fault):
-                    cadf_index.lines_at(each, place[0] + 1, *place[1:])
+                    list(cadf_index.lines_at(each, [(place[0] + 1, *place[1:])]))
             each.file.close()
     every = collections.defaultdict(set)
     for entry, name in names.items():
