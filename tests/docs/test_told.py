@@ -103,3 +103,28 @@ def test_what_stops_an_attempt_is_tested():
     rows = attempts()
     assert len(rows) > 40 and {name for row in rows for name in re.findall(r"`(test_\w+)`", row[2])} <= defined
     assert [row for row in rows if row[2] and "`test_" not in row[2] and "[proved]" not in row[2]] == []
+
+
+def options_that_are_set():
+    """The sections and options of the settings that OPENSTACK has operators write into files of services."""
+    settings = re.findall(r"(?ms)^```ini\n(.*?)^```$", text_of("docs", "OPENSTACK.md").split("\n## What happens")[0])
+    return {(section, option) for section, lines in re.findall(r"(?m)^\[(\w+)\]\n((?:\w+ =.*\n)+)", "".join(settings))
+            for option in re.findall(r"(?m)^\w+", lines)}
+
+
+BROKER = {("oslo_messaging_rabbit", name) for name in ("amqp_durable_queues", "rabbit_quorum_queue", "kombu_compression")}
+
+
+@pytest.mark.filterwarnings("ignore")
+def test_options_of_services():
+    """The installed packages of OpenStack have each option that the page sets, and those of the broker that its tables name."""
+    try:
+        from keystone.conf import default
+        from keystonemiddleware import audit
+        from oslo_messaging import opts
+    except ImportError as missing:
+        pytest.skip("keystonemiddleware: or what is tried beside it isn't there: %s" % missing.name)
+    there = {(group, option.name) for group, options in [*opts.list_opts(), *audit.list_opts()] for option in options}
+    there |= {("DEFAULT", option.name) for option in default.ALL_OPTS}
+    assert len(options_that_are_set()) == 5 and options_that_are_set() | BROKER <= there
+    assert all("`%s`" % name in text_of("docs", "OPENSTACK.md") for _, name in BROKER)
