@@ -105,6 +105,18 @@ def test_what_stops_an_attempt_is_tested():
     assert [row for row in rows if row[2] and "`test_" not in row[2] and "[proved]" not in row[2]] == []
 
 
+def words_of(row):
+    """The words of the line that a row of ERRORS begins with, in which a capital by itself stands for a name or a number."""
+    return re.findall("[a-z]+", re.sub(r"\b(?:[A-Z]|DIGITS)\b", " ", re.search("`([^`]+)`", row).group(1)).lower())
+
+
+def test_order_of_errors():
+    """Whoever has a line finds it by its words."""
+    rows_of_page = re.findall(r"(?m)^\| `.*$", text_of("docs", "ERRORS.md").split("\n## By message\n")[1].split("\n## ")[0])
+    found = [words_of(row) for row in rows_of_page]
+    assert len(found) > 90 and found == sorted(found)
+
+
 def options_that_are_set():
     """The sections and options of the settings that OPENSTACK has operators write into files of services."""
     settings = re.findall(r"(?ms)^```ini\n(.*?)^```$", text_of("docs", "OPENSTACK.md").split("\n## What happens")[0])
