@@ -1,5 +1,5 @@
 -- Which digests are asked for doesn't depend on their order.
-use Rattle.cadf_evidence.proofs.Common.{◌≡◌, ◌∙◌, ◌&&◌, ◌||◌, Bool, true, false, List, [], ◌∷◌, map, Option, Some, None, inl, inr, refl, ap, sym, subst, true≢false, list_any, option_or, false_from_ne_true, Text, Contents, rising, Listed, text_same, text_total, texts_same, texts_total, listed-rising, rising-listed, digest_of_some, known_digest, listed_map, map_listed, atom_digest, digests_of, fault_unless, is_hash, tree_fault, all_asked, first_part, needs, shown, items, NotNeeded, Part, Root, ℕ, Result, Ok, Err, ProofModel, SealModel, fact_digests, told, VerifyFaultIs, first_fault, keys_fault, text_unless, tree_refusal, verified, VerifyFault, Proof, NotShown, Absent, Present, Memory}
+use Rattle.cadf_evidence.proofs.Common.{◌≡◌, ◌∙◌, ◌&&◌, ◌||◌, Bool, true, false, List, [], ◌∷◌, map, Option, Some, None, inl, inr, refl, ap, sym, subst, true≢false, list_any, option_or, false_from_ne_true, Text, Contents, rising, Listed, text_same, text_total, texts_same, texts_total, listed-rising, rising-listed, digest_of_some, known_digest, listed_map, map_listed, atom_digest, digests_of, fault_unless, is_hash, tree_fault, all_asked, first_part, needs, shown, items, NotNeeded, Part, Root, ℕ, Result, Ok, Err, fact_digests, told, VerifyFaultIs, alone_fault, first_fault, refusal, text_unless, tree_refusal, verdict_on, VerifyFault, Asked, text_cmp, Texts, from_list_has, has_from_list, Proof, NotShown, Absent, Present, Memory}
 use Rattle.cadf_join.specs.Sets as set
 
 -- ---- lists with the same members
@@ -56,30 +56,32 @@ digests_around s x l =
     let t = digest_of_some atom_digest s x (listed-rising text_total text_same (digests_of atom_digest s) x l) in
     subst (λ d. Listed d (map atom_digest (rising s))) (sym t.2) (listed_map atom_digest (rising s) t.0 (rising-listed texts_total texts_same s t.0 t.1))
 
-pub shown_rising : (r : Root) (ps : List Part) (s : Contents) → shown r ps (fact_digests s) ≡ shown r ps (map atom_digest (rising s))
-shown_rising r ps s = shown_same r ps (fact_digests s) (map atom_digest (rising s)) (digests_around s) (digests_within s)
+-- ---- digests of keys
 
--- ---- the verdict, by what was found of the tree and then of the facts
+pub keys_within : (ds : List Text) → AreWithin ds (rising {R = text_cmp} (set.from_list ds))
+keys_within ds x l = rising-listed text_total text_same (set.from_list ds) x (has_from_list text_total text_same ds x l)
+
+pub keys_around : (ds : List Text) → AreWithin (rising {R = text_cmp} (set.from_list ds)) ds
+keys_around ds x l = from_list_has text_total text_same ds x (listed-rising text_total text_same (set.from_list ds) x l)
+
+-- ---- the verdict, by what is asked for in another order
 
 fault_is : (e : VerifyFault) (r : Result (List ℕ) VerifyFault) → r ≡ Err e → VerifyFaultIs e r
 fault_is Memory r h = tt
 fault_is (Proof f) r h = h
-fault_is (NotShown k) r h = h
-fault_is (Absent k) r h = h
-fault_is (Present k) r h = h
+fault_is (NotShown a k) r h = h
+fault_is (Absent a k) r h = h
+fault_is (Present a k) r h = h
 
-module _ (s : SealModel) (p : ProofModel) (facts : Contents) (absent : Bool) where
-  abbrev pub of_facts : Option VerifyFault
-  of_facts = option_or (keys_fault p.keys) (first_fault absent p.facts 1 (map atom_digest (rising facts)))
+module _ (a : Asked) (r : Root) (ps : List Part) (alone : Bool) (ws : List Text) (qs : List Texts) (absent : Bool)
+    (to : AreWithin ws (map atom_digest qs)) (from : AreWithin (map atom_digest qs) ws) where
+  verdict_is : verdict_on a r ps alone qs absent ≡ text_unless (refusal a r ps alone ws (map atom_digest qs) absent) (told absent qs)
+  verdict_is =
+      ap (λ o. text_unless (option_or (tree_refusal o) (option_or (alone_fault alone) (first_fault a absent ps 1 (map atom_digest qs)))) (told absent qs))
+      (shown_same r ps (map atom_digest qs) ws from to)
 
-  verdict_is : verified s p facts absent ≡ text_unless (option_or (tree_refusal (shown s.facts p.facts (fact_digests facts))) of_facts) (told absent (rising facts))
-  verdict_is = ap (λ o. text_unless (option_or (tree_refusal o) of_facts) (told absent (rising facts))) (sym (shown_rising s.facts p.facts facts))
+  pub refused : (e : VerifyFault) → refusal a r ps alone ws (map atom_digest qs) absent ≡ Some e → VerifyFaultIs e (verdict_on a r ps alone qs absent)
+  refused e h = fault_is e _ (verdict_is ∙ ap (λ o. text_unless o (told absent qs)) h)
 
-  pub tree_refused : (e : VerifyFault) → tree_refusal (shown s.facts p.facts (fact_digests facts)) ≡ Some e → VerifyFaultIs e (verified s p facts absent)
-  tree_refused e h = fault_is e _ (verdict_is ∙ ap (λ o. text_unless (option_or o of_facts) (told absent (rising facts))) h)
-
-  pub facts_refused : (e : VerifyFault) → tree_refusal (shown s.facts p.facts (fact_digests facts)) ≡ None → of_facts ≡ Some e → VerifyFaultIs e (verified s p facts absent)
-  facts_refused e h k = fault_is e _ (verdict_is ∙ (λ i. text_unless (option_or (h i) (k i)) (told absent (rising facts))))
-
-  pub facts_told : tree_refusal (shown s.facts p.facts (fact_digests facts)) ≡ None → of_facts ≡ None → verified s p facts absent ≡ Ok (told absent (rising facts))
-  facts_told h k = verdict_is ∙ (λ i. text_unless (option_or (h i) (k i)) (told absent (rising facts)))
+  pub all_told : refusal a r ps alone ws (map atom_digest qs) absent ≡ None → verdict_on a r ps alone qs absent ≡ Ok (told absent qs)
+  all_told h = verdict_is ∙ ap (λ o. text_unless o (told absent qs)) h

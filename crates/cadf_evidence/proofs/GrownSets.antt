@@ -1,8 +1,8 @@
 -- What is told of two seals is so.
 use Rattle.cadf_evidence.proofs.Common.{◌≡◌, ◌∙◌, ℕ, List, [], ◌∷◌, length, true, false, Option, Some, None, Result, Ok, Err, refl, sym, ap, subst, arith, common_steps, AllByRecursion, Text, Contents, sha_digest, key_digest, keys_of, digest_of_some, IsDigest, all_needed, fault_unless, growth_unless, tree_fault, verdict, BothAreHonest, items, leaves_of, number, IsSet, Growth, TreeFault, NotNeeded, option_or, Kind, Both, Added, Went, Part, Node, Hash, Leaf, Root, all_gone_fault, error_of, first_unlisted, gone_fault, growth_of, growth_text, is_listed, keys_growth, later_fault, log_fault, placed, told_growth, unless_log, unlisted, AreKeyParts, AreParts, seal_of, GrowthIsSo, fact_digests, given_parts, key_digests, text_unless, GrowthFault, SealedSet, Facts, Keys, Bool, ◌||◌, ◌⊎◌, inl, inr, if◌then◌else◌, rising, listed-rising, rising-listed, text_same, text_total, Digests, digests_of, atom_digest, is_text, is_earlier, is_later, is_gone, those, Marked, member, AllByRecursion-listed, ListedModel, Differ, NothingGoesUnlisted, StayOrAreListed}
 use Rattle.cadf_join.specs.Sets as set
-use Rattle.cadf_evidence.proofs.SetsOfDigests.{digests_are_set, facts_are_set}
-use Rattle.cadf_evidence.proofs.ToldFacts.{both_none, have_hashes, listed_member, member_listed}
+use Rattle.cadf_evidence.proofs.SetsOfDigests.{facts_are_set, keys_are_set}
+use Rattle.cadf_evidence.proofs.ToldFacts.{both_none, given_are, have_hashes, listed_member, member_listed}
 
 -- ---- what isn't refused
 
@@ -69,13 +69,6 @@ all_listed t list (Leaf Went d ∷ ps) e =
     (listed_leaf t list d p.0, all_listed t list ps p.1)
 
 -- ---- both sets
-
-pub keys_are_set : (held : Contents) → IsSet (key_digests held)
-keys_are_set held = digests_are_set (keys_of held) (λ d h. let x = digest_of_some key_digest held d h in subst IsDigest (sym x.2) (sha_digest _))
-
-given_are : (o : Option (List Part)) → AreKeyParts o → AreParts (given_parts o)
-given_are None each = tt
-given_are (Some ks) each = each
 
 pub growth_is_so : BothAreHonest → GrowthIsSo
 growth_is_so honest a b p list text is facts_apart keys_apart e =

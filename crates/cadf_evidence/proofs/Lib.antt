@@ -2,6 +2,8 @@ mod AlikeLines
 mod AskedDigests
 mod EqualSeals
 mod GrownSets
+mod KeyFiles
+mod KeyLemmas
 mod LeafSets
 mod MadeProofs
 mod MarkedLemmas

@@ -1,5 +1,7 @@
 pub mod Fault
 pub mod Growth
+pub mod KeyList
+pub mod KeyVerdict
 pub mod Made
 pub mod Marked
 pub mod ProofFile

@@ -2,19 +2,23 @@
 --     HasFacts s held      the first root of the seal is that of the facts of this set
 --     IsHashedIn held p x  the text x is hashed for this root, or for that of the proof's parts
 --     FactsAreSo           of facts that are told, each is in the sealed set or not, as was asked
+--     HasKeys s held       the second root of the seal is that of the keys of this set
+--     IsKeyHashedIn held p x   the text x is hashed for this root, or for that of the proof's parts
+--     IsKeyAsAsked held q b    some fact of the set has the key q; if it is asked to be absent, none has
+--     KeysAreSo            of keys that are told, each is so in the sealed set
 --     Differ t l old new   the sets old and new differ by some digests alone, and those that went are listed
 --     IsGrown a b l text   so do the facts of both sets and their keys, and the text says how many facts
 --     GrowthIsSo           what is told of two seals is so
 --     NothingGoesUnlisted  then each fact and each key of the earlier set is in the later one or in the list
 --     unchanged_parts ds   the parts that show that the set ds didn't change
 --     EqualSealsAreOfOneSet   equal seals are of one log and one set of facts
-use Rattle.std.specs.Prelude.{◌≡◌, ◌⊎◌, Bool, true, not, ◌||◌, List, [], ◌∷◌, ℕ, length, Option, unwrap_or, Ok}
+use Rattle.std.specs.Prelude.{◌≡◌, ◌⊎◌, Bool, true, false, not, ◌||◌, List, [], ◌∷◌, ℕ, length, Option, unwrap_or, Ok}
 use Rattle.std.specs.List.{AllByRecursion}
 use Rattle.cadf_join.specs.Contents.{Text, Texts, Contents, Has}
 use Rattle.cadf_join.specs.Sets as set
-use Rattle.cadf_join.specs.Sets.{rising}
+use Rattle.cadf_join.specs.Sets.{rising, Listed}
 use Rattle.cadf_line.specs.Digest.{atom_digest}
-use Rattle.cadf_key.specs.Keys.{keys_of}
+use Rattle.cadf_key.specs.Keys.{key_of, keys_of}
 use Rattle.cadf_listed.specs.ListFile.{ListedModel}
 use Rattle.cadf_line.specs.Missing.{Digests, NoCollision, digests_of}
 use Rattle.cadf_set.specs.Replica.{ReplicaModel}
@@ -26,7 +30,7 @@ use Rattle.cadf_tree.specs.declared.parts.Part.TheVariants.{Hash}
 use Rattle.cadf_evidence.specs.Growth.{grown, growth_text, is_listed}
 use Rattle.cadf_evidence.specs.ProofFile.{ProofModel, IsProof}
 use Rattle.cadf_evidence.specs.SealFile.{SealModel, seal_of}
-use Rattle.cadf_evidence.specs.Verified.{verified}
+use Rattle.cadf_evidence.specs.Verified.{verified, verified_keys}
 use Rattle.cadf_evidence.specs.declared.growth.SealedSet.{SealedSet}
 use Rattle.cadf_evidence.specs.declared.growth.SealedSet.TheVariants.{Facts, Keys}
 
@@ -45,13 +49,31 @@ FactsAreSo = (s : SealModel) (p : ProofModel) (held facts : Contents) (absent : 
     → DoNotCollide (IsHashedIn held p) → ((x y : Texts) → Has facts x → Has held y → atom_digest x ≡ atom_digest y → x ≡ y)
     → verified s p facts absent ≡ Ok text → (q : Texts) → Has facts q → set.contains held q ≡ not absent
 
--- ---- growth
+-- ---- keys
 
 abbrev pub key_digests : Contents → List Text
 key_digests held = rising (keys_of held)
 
 abbrev pub given_parts : Option (List Part) → List Part
 given_parts o = unwrap_or o []
+
+abbrev pub HasKeys : SealModel → Contents → Type 0
+HasKeys s held = s.keys ≡ root (key_digests held)
+
+abbrev pub IsKeyHashedIn : Contents → ProofModel → Text → Type 0
+IsKeyHashedIn held p x = IsHashedFor (key_digests held) x ⊎ IsHashedBy is_earlier (length (key_digests held)) (given_parts p.keys) x
+
+abbrev pub IsKeyAsAsked : Contents → Texts → Bool → Type 0
+IsKeyAsAsked held q true = (x : Texts) → Has held x → key_of x ≡ q → ⊥
+IsKeyAsAsked held q false = (x : Texts) × Has held x × (key_of x ≡ q)
+
+-- no other key of a fact of the set has the digest of one of these
+abbrev pub KeysAreSo : Type 0
+KeysAreSo = (s : SealModel) (p : ProofModel) (held : Contents) (keys : List Texts) (absent : Bool) (text : List ℕ) → IsProof p → HasKeys s held
+    → DoNotCollide (IsKeyHashedIn held p) → ((q x : Texts) → Listed q keys → Has held x → atom_digest q ≡ atom_digest (key_of x) → q ≡ key_of x)
+    → verified_keys s p keys absent ≡ Ok text → (q : Texts) → Listed q keys → IsKeyAsAsked held q absent
+
+-- ---- growth
 
 pub record Differ (t : SealedSet) (list : Option ListedModel) (old new : List Text) : Type 0 where
   pub added : List Text

@@ -1,12 +1,15 @@
 //! Laws over the definitions alone. Each function's contract is a theorem, and its body is empty.
 ghost use Rattle.std.specs.Prelude.{◌≡◌, ◌≤◌, ℕ, length, false, Ok};
-ghost use Rattle.cadf_evidence.specs.Made.{FactsProofIsTold, GrowthProofIsTold, ListedGrowthIsGrowth};
+ghost use Rattle.cadf_evidence.specs.KeyList.{IsKeyList, KeysFileIsInjective, keys_file};
+ghost use Rattle.cadf_evidence.specs.KeyVerdict.{keys_verdict};
+ghost use Rattle.cadf_evidence.specs.Made.{FactsProofIsTold, GrowthProofIsTold, KeysProofIsTold, ListedGrowthIsGrowth};
 ghost use Rattle.cadf_evidence.specs.ProofFile.{IsProof, ProofFileIsInjective, proof_file};
 ghost use Rattle.cadf_evidence.specs.ProofVerdict.{proof_verdict};
 ghost use Rattle.cadf_evidence.specs.SealFile.{IsSeal, SealFileIsInjective, seal_file};
 ghost use Rattle.cadf_evidence.specs.SealVerdict.{seal_verdict};
-ghost use Rattle.cadf_evidence.specs.Soundness.{FactsAreSo, GrowthIsSo, NothingGoesUnlisted, EqualSealsAreOfOneSet};
+ghost use Rattle.cadf_evidence.specs.Soundness.{FactsAreSo, GrowthIsSo, KeysAreSo, NothingGoesUnlisted, EqualSealsAreOfOneSet};
 
+use crate::key_list::KeyList;
 use crate::proof::Proof;
 use crate::seal::Seal;
 use cadf_listed::list_over_sets;
@@ -38,9 +41,30 @@ pub fn proof_is_read_back(proof: &Proof)
     proof.type_invariant();
 }
 
+/// States that the file of a list of keys is injective: lists with equal files are equal.
+pub fn keys_file_is_injective()
+    ensures { KeysFileIsInjective }
+{}
+
+/// States that the file of a list of keys is accepted if it is within the limit, and is read as that list.
+pub fn keys_are_read_back(keys: &KeyList)
+    ensures keys { IsKeyList keys.now }
+    ensures read { (limit : ℕ) → length (keys_file keys.now) ≤ limit → keys_verdict limit false (keys_file keys.now) ≡ Ok keys.now }
+{
+    keys.type_invariant();
+}
+
 /// States that of facts that are told, each is in the sealed set or not, as was asked, if what is hashed doesn't collide.
 pub fn told_facts_are_so()
     ensures { FactsAreSo }
+{
+    presence_is_sound();
+}
+
+/// States that of keys that are told, a fact of the sealed set has each, or none has any, as was asked, if what is hashed
+/// doesn't collide.
+pub fn told_keys_are_so()
+    ensures { KeysAreSo }
 {
     presence_is_sound();
 }
@@ -66,9 +90,11 @@ pub fn equal_seals_are_of_one_set()
 }
 
 /// States that the proof that is made for facts of which all are in the set, or none, is accepted under the set's seal and
-/// tells so; and that the one that is made of two sets is accepted under both seals, if what went is listed.
+/// tells so, and so is that for keys; and that the one that is made of two sets is accepted under both seals, if what went
+/// is listed.
 pub fn made_proofs_are_told()
     ensures facts { FactsProofIsTold }
+    ensures keys { KeysProofIsTold }
     ensures growth { GrowthProofIsTold }
 {
     presence_is_complete();

@@ -1,11 +1,14 @@
-//! What is made of sets: the list of what is sealed, the proof of which facts are in a set, and that of how a set grew.
+//! What is made of sets: the list of what is sealed, the proofs of which facts or keys are in a set, and that of how a set
+//! grew.
 ghost use Rattle.std.specs.Prelude.{◌≡◌, IfOk};
 ghost use Rattle.cadf_join.specs.Sets.{rising};
 ghost use Rattle.cadf_tree.specs.GrowthMade.{growth_parts};
+ghost use Rattle.cadf_tree.specs.PresenceMade.{presence_parts};
 ghost use Rattle.cadf_tree.specs.Tree.{IsSet};
-ghost use Rattle.cadf_evidence.specs.Made.{growth_from, proof_of, sealed_of};
+ghost use Rattle.cadf_evidence.specs.Made.{growth_from, keys_proof_of, proof_of, sealed_of};
 ghost use Rattle.cadf_evidence.specs.ProofFile.{AreParts};
 
+use crate::key_list::KeyList;
 use crate::proof::{Parts, Proof};
 use crate::seal::digests_of;
 use cadf_json::Memory;
@@ -40,22 +43,42 @@ fn growth_parts(
     growth_of(alloc, earlier.as_slice(), digests.as_slice())
 }
 
+/// Makes the parts that show which of the asked digests are among the held ones. `Memory` if an allocation fails.
+fn presence_parts(alloc: Global, asked: &Inventory, held: &Inventory) -> Result<Vec<Part>, Memory>
+    ensures parts { IfOk result (λ parts. parts.items ≡ presence_parts (rising held.now.digests) (rising asked.now.digests)) }
+    ensures form { IfOk result (λ parts. AreParts parts.items) }
+{
+    asked.type_invariant();
+    held.type_invariant();
+    tree_has_the_set();
+    let digests = digests_of(alloc, held)?;
+    let wanted = digests_of(alloc, asked)?;
+    presence_of(alloc, digests.as_slice(), wanted.as_slice())
+}
+
 impl Proof {
     /// Makes the proof, under a seal of the held digests, of which of the asked ones are among them. `Memory` if an
     /// allocation fails.
     pub fn of(alloc: Global, asked: &Inventory, held: &Inventory) -> Result<Proof, Memory>
         ensures { IfOk result (λ p. p ≡ proof_of asked.now held.now) }
     {
-        asked.type_invariant();
-        held.type_invariant();
-        let digests = digests_of(alloc, held)?;
-        let wanted = digests_of(alloc, asked)?;
-        tree_has_the_set();
-        let parts = presence_of(alloc, digests.as_slice(), wanted.as_slice())?;
+        let parts = presence_parts(alloc, asked, held)?;
         let log = held.log().copy(alloc)?;
         Ok(Proof {
             log,
             parts: Parts::Facts(parts),
+        })
+    }
+
+    /// Makes the proof, under the seal of a replica, of which of the asked keys its facts have. `Memory` if an allocation
+    /// fails. The list's log isn't compared.
+    pub fn of_keys(alloc: Global, asked: &KeyList, held: &Replica) -> Result<Proof, Memory>
+        ensures { IfOk result (λ p. p ≡ keys_proof_of asked.now held.now) }
+    {
+        let parts = presence_parts(alloc, &asked.inventory(alloc)?, &keys_of(alloc, held)?)?;
+        Ok(Proof {
+            log: held.log().copy(alloc)?,
+            parts: Parts::Keys(Vec::new(alloc), parts),
         })
     }
 

@@ -1,4 +1,4 @@
-//! What is said of facts that are all as asked: a line of text for each.
+//! What is said of facts or keys that are all as asked: a line of text for each.
 ghost use Rattle.std.specs.Prelude.{◌≡◌, ◌++◌, ⊤, IfOk, OnOk, OnErr, get_or, [], is_err};
 ghost use Rattle.std.specs.Io.KnownBytes.{Appends};
 ghost use Rattle.cadf_json.specs.Streams.{AppendsPrefix, counted};
@@ -6,11 +6,13 @@ ghost use Rattle.cadf_join.specs.Prefixes.{texts_at};
 ghost use Rattle.cadf_join.specs.Sets.{rising};
 ghost use Rattle.cadf_line.specs.States.{Keeps};
 ghost use Rattle.cadf_line.proofs.HashStates.{keeps_none, keeps_shared};
-ghost use Rattle.cadf_evidence.specs.Told.{told_text, subject, digest_text, told_head, word_for, told, Tells};
+ghost use Rattle.cadf_evidence.specs.Told.{told_text, subject, digest_text, told_head, told_line, word_for, told, Tells};
 ghost use Rattle.cadf_evidence.specs.laws.Telling.{tells_none, tells_more};
 
+use crate::key_list::{Key, KeyList};
 use cadf_join::Visitor;
 use cadf_json::{Failed, Memory, Sink, push_quoted, write_all};
+use cadf_key::KeyDigests;
 use cadf_line::LineDigests;
 use cadf_set::Replica;
 use std::alloc::Global;
@@ -23,7 +25,7 @@ pub(crate) struct Alike {
     digests: Vec<[u8; 32]>,
 }
 
-/// Lines of text, one for each fact. What lines that follow each other begin with, as those of facts of one key do, is
+/// Lines of text, one for each fact or key. What lines that follow each other begin with, as those of facts of one key do, is
 /// held once.
 #[derive(Drop)]
 pub struct FactLines {
@@ -93,6 +95,35 @@ pub(crate) fn told(alloc: Global, facts: &Replica, absent: bool) -> Result<FactL
     Ok(FactLines {
         lines: telling.lines,
     })
+}
+
+/// Makes the lines that say of each key that facts have it, or that none has. `Memory` if an allocation fails.
+pub(crate) fn told_keys(alloc: Global, keys: &KeyList, absent: bool) -> Result<FactLines, Memory>
+    ensures { IfOk result (λ lines. lines ≡ told absent keys.now.keys) }
+{
+    let mut digests = KeyDigests::new(alloc);
+    let mut lines = Vec::new(alloc);
+    let asked = keys.keys();
+    for key in asked {
+        tell_key(alloc, absent, key, &mut digests, &mut lines)?;
+    }
+    Ok(FactLines { lines })
+}
+
+/// Appends the line of a key.
+fn tell_key(
+    alloc: Global,
+    absent: bool,
+    key: &Key,
+    digests: &mut KeyDigests,
+    lines: &mut Vec<Alike>,
+) -> Result<(), Memory>
+    ensures { OnOk result (told_text lines.new.items ≡ told_text lines.old.items ++ told_line (word_for absent) key.now) }
+{
+    let digest = key.digest(digests)?;
+    let mut head = Vec::new(alloc);
+    push_head(alloc, word_for(absent), &key.texts(), &mut head)?;
+    push_line(alloc, head.as_slice(), &digest, lines)
 }
 
 /// A visitor that says of each list that it is asked to be there, or not to be. It has a buffer for a line.
