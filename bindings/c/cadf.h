@@ -103,14 +103,15 @@ int cadf_inventory(const struct cadf_bytes *input, uint8_t *output, size_t room,
 /* The seal file of the input: its log, the number and the root of its facts, and those of their keys. */
 int cadf_seal(const struct cadf_bytes *input, uint8_t *output, size_t room, size_t *length);
 
-/* The proof file, under the seal of all inputs, of which facts they have and which they don't. `facts` is input 1. */
-int cadf_prove(const struct cadf_bytes *facts, const struct cadf_bytes *inputs, size_t count,
+/* The proof file, under the seal of all inputs, of which facts they have and which they don't; with `keys`, of which keys of a
+ * key file their facts have. `facts`, or that file, is input 1. */
+int cadf_prove(bool keys, const struct cadf_bytes *facts, const struct cadf_bytes *inputs, size_t count,
                uint8_t *output, size_t room, size_t *length);
 
 /* A line for each fact, with its digest, by a seal and a proof: that it is there; with `absent`, that it isn't. Refused
- * unless all are so, and if there is no fact. */
-int cadf_verify(bool absent, const struct cadf_bytes *seal, const struct cadf_bytes *facts, const struct cadf_bytes *proof,
-                uint8_t *output, size_t room, size_t *length);
+ * unless all are so, and if there is no fact. With `keys` the same for each key of a key file, in place of facts. */
+int cadf_verify(bool keys, bool absent, const struct cadf_bytes *seal, const struct cadf_bytes *facts,
+                const struct cadf_bytes *proof, uint8_t *output, size_t room, size_t *length);
 
 /* The sealed list of the input: the digests of its facts and of their keys. */
 int cadf_sealed(const struct cadf_bytes *input, uint8_t *output, size_t room, size_t *length);
@@ -240,21 +241,21 @@ static inline int cadf_seal_or_null(const struct cadf_bytes *input, uint8_t *out
     return cadf_seal(&one, output ? output : &nowhere, output ? room : 0, length);
 }
 
-static inline int cadf_prove_or_null(const struct cadf_bytes *facts, const struct cadf_bytes *inputs, size_t count,
+static inline int cadf_prove_or_null(bool keys, const struct cadf_bytes *facts, const struct cadf_bytes *inputs, size_t count,
                                      uint8_t *output, size_t room, size_t *length)
 {
     uint8_t nowhere = 0;
     const struct cadf_bytes none = cadf_bytes_of(NULL, 0), one = cadf_bytes_at(facts);
-    return cadf_prove(&one, inputs ? inputs : &none, inputs ? count : 0,
+    return cadf_prove(keys, &one, inputs ? inputs : &none, inputs ? count : 0,
                       output ? output : &nowhere, output ? room : 0, length);
 }
 
-static inline int cadf_verify_or_null(bool absent, const struct cadf_bytes *seal, const struct cadf_bytes *facts,
+static inline int cadf_verify_or_null(bool keys, bool absent, const struct cadf_bytes *seal, const struct cadf_bytes *facts,
                                       const struct cadf_bytes *proof, uint8_t *output, size_t room, size_t *length)
 {
     uint8_t nowhere = 0;
     const struct cadf_bytes first = cadf_bytes_at(seal), second = cadf_bytes_at(facts), third = cadf_bytes_at(proof);
-    return cadf_verify(absent, &first, &second, &third, output ? output : &nowhere, output ? room : 0, length);
+    return cadf_verify(keys, absent, &first, &second, &third, output ? output : &nowhere, output ? room : 0, length);
 }
 
 static inline int cadf_sealed_or_null(const struct cadf_bytes *input, uint8_t *output, size_t room, size_t *length)

@@ -3,8 +3,9 @@
  *
  *     call show FILE | conflicts FILE | check FILE | inventory FILE | missing FROM TO | missing-by FROM INVENTORY
  *     call join LOG FILE.. | split UNIT LOG FILE.. | rule LETTER KEY PLACE FILE | rehearse LOG SITES SCRIPT
- *     call sketch CELLS SALT FILE | missing-by-sketch FROM SKETCH | seal FILE | prove FACTS FILE..
+ *     call sketch CELLS SALT FILE | missing-by-sketch FROM SKETCH | seal FILE | prove FACTS FILE.. | prove-keys KEYS FILE..
  *     call verify SEAL FACTS PROOF | absent SEAL FACTS PROOF | grew OLD NEW PROOF [LIST]
+ *     call verify-keys SEAL KEYS PROOF | absent-keys SEAL KEYS PROOF
  *     call sealed FILE | growth SEALED FILE.. | omit LIST FILE..
  *
  * An empty LOG is none, and so is 0 for CELLS or SALT. PLACE, SITES, CELLS and SALT are decimal numbers below 2^64, without a sign or
@@ -83,9 +84,9 @@ static int call(int count, char **words, uint8_t *output, size_t room, size_t *l
         struct cadf_bytes by = word(words[1]), log = word(words[2]);
         return cadf_split(&by, files(count - 3, words + 3), count - 3, &log, output, room, length);
     }
-    if (count >= 2 && count < 4098 && !strcmp(name, "prove")) {
+    if (count >= 2 && count < 4098 && (!strcmp(name, "prove") || !strcmp(name, "prove-keys"))) {
         const struct cadf_bytes *inputs = files(count - 1, words + 1);
-        return cadf_prove(inputs, inputs + 1, count - 2, output, room, length);
+        return cadf_prove(name[5] != 0, inputs, inputs + 1, count - 2, output, room, length);
     }
     if (count >= 2 && count < 4098 && !strcmp(name, "growth")) {
         const struct cadf_bytes *inputs = files(count - 1, words + 1);
@@ -99,9 +100,9 @@ static int call(int count, char **words, uint8_t *output, size_t room, size_t *l
         const struct cadf_bytes *inputs = files(count - 1, words + 1), none = word("");
         return cadf_grew(count == 5 ? inputs + 3 : &none, inputs, inputs + 1, inputs + 2, output, room, length);
     }
-    if (count == 4 && (!strcmp(name, "verify") || !strcmp(name, "absent"))) {
+    if (count == 4 && (!strcmp(name, "verify") || !strcmp(name, "absent") || !strcmp(name, "verify-keys") || !strcmp(name, "absent-keys"))) {
         const struct cadf_bytes *inputs = files(3, words + 1);
-        return cadf_verify(name[0] == 'a', inputs, inputs + 1, inputs + 2, output, room, length);
+        return cadf_verify(name[6] != 0, name[0] == 'a', inputs, inputs + 1, inputs + 2, output, room, length);
     }
     if (!first.bytes && count > 1) {
         first = file(words[is_of_two ? 1 : count - 1]);

@@ -19,9 +19,11 @@ CALL = "crates/cadf_c/specs/Statuses.antt"
 # What is made of sources where no file comes of it, and the laws that speak of that.
 OTHERS = {
     "proof_for": ("cadf_evidence", "made_proofs_are_told"),
+    "keys_proof_for": ("cadf_evidence", "made_proofs_are_told"),
     "growth_for": ("cadf_evidence", "made_proofs_are_told"),
     "growth_line": ("cadf_evidence", "told_growth_is_so"),
     "verdict_of": ("cadf_evidence", "told_facts_are_so"),
+    "key_verdict_of": ("cadf_evidence", "told_keys_are_so"),
     "final_sites": ("cadf_rehearsal", "rehearsal_equals_full_exchange"),
 }
 CLAUSE = re.compile(r"\bIs(?:Run|RunBy|RequestRun|MadeFor)\b")

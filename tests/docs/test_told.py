@@ -41,10 +41,10 @@ def test_status(fault, status):
 
 @pytest.mark.parametrize("text", sorted({text for text, _ in told()}))
 def test_entry_of_fault(text):
-    """ERRORS has an entry for each text that FORMATS has, whatever input, fact or line it begins with."""
+    """ERRORS has an entry for each text that FORMATS has, whatever input, fact, key or line it begins with."""
     entries = text_of("docs", "ERRORS.md").split("\n## By message\n")[1].split("\n## ")[0]
     named = {name for line in entries.splitlines() for name in re.findall("`([^`]*)`", line.split(" | ")[0])}
-    fault = re.sub(r"^(?:(?:input|fact|line) \w+: )+", "", text)
+    fault = re.sub(r"^(?:(?:input|fact|key|line) \w+: )+", "", text)
     assert fault in {"", *named}
 
 

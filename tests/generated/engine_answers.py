@@ -16,6 +16,7 @@ def engine(call):
     many files."""
     is_several = call.command != b"join" and len(call.files) > (2 if call.again else 1)
     name = call.command.decode().replace("-", "_")
+    name += "_keys" if call.of_keys else ""
     name = ("run_" if "run_" + name in CALLS and not is_several else "ask_") + name
     own = {
         b"join": lambda: [call.log or b""], b"rehearse": lambda: [call.log, call.sites], b"rule": lambda: call.ruling,

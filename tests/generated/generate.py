@@ -5,7 +5,7 @@ import random
 
 from tests import TOP
 from tests.generated import (
-    odd_documents, odd_events, odd_files, odd_growths, odd_inventories, odd_nodes, odd_proofs, odd_sketches, schedules,
+    odd_documents, odd_events, odd_files, odd_growths, odd_inventories, odd_keys, odd_nodes, odd_proofs, odd_sketches, schedules,
 )
 from tests.generated.odd_lies import Lie
 from tests.generated.odd_events import chain, event
@@ -480,6 +480,22 @@ def misleading_proofs(chance):
     return verified(chance, files, *odd_proofs.of_no_set(chance, read_input(files["facts"])[1]))
 
 
+def asked_keys(chance):
+    """Calls of `prove` and of `verify` with a key file."""
+    files = {"folder": DIRECTORY, **facts_and_files(chance)}
+    atoms, others = with_rulings(chance, read_input(files["a"])[1]), atoms_of(documents_told(chance))
+    listed, seal, proof = odd_keys.files_for(chance, atoms, others)
+    if chance.random() < 0.3:
+        files = {**files, "a": some_file_of(chance, "g", atoms), "keys": listed}
+        inputs = [name for name in ("a", "b") if name in files] + chance.choice([[]] * 20 + [["folder"], ["nothere"], ["keys"]])
+        words = ["prove", "keys" if chance.random() < 0.96 else chance.choice(["folder", "nothere", "a"]), *inputs]
+        words.insert(chance.randint(1, len(words)), "--keys")
+        return words, files
+    words, files = verified(chance, {"facts": listed if chance.random() < 0.98 else files["facts"]}, seal, proof)
+    words.insert(chance.randint(1, len(words)), "--keys")
+    return words, files
+
+
 def grown_sets(chance):
     """Atoms, and those that came of them, with the files of both."""
     earlier = with_rulings(chance, atoms_of(documents_told(chance, 1, 3)))
@@ -673,7 +689,7 @@ KINDS = {
     damaged_inventories: 18, rules: 12, read_by(odd_documents.doubled, telling): 16, read_by(odd_documents.numbered, telling): 8,
     read_by(odd_documents.escaped, telling): 10, read_by(odd_documents.deep, telling): 14, read_by(odd_documents.bare, telling): 12,
     read_by(odd_documents.odd_in_turn, telling): 12, unions: 14, rehearsals: 12, sketches: 14, damaged_sketches: 16, misleading_sketches: 12,
-    splits: 14, proves: 12, verifies: 14, damaged_proofs: 18, misleading_proofs: 12, growths: 14, omits: 14, grew: 20, lies: 14}
+    splits: 14, proves: 12, verifies: 14, damaged_proofs: 18, misleading_proofs: 12, asked_keys: 16, growths: 14, omits: 14, grew: 20, lies: 14}
 
 
 class Case:

@@ -276,7 +276,7 @@ class InProcess:
 
         found = Call(words)  # Usage: the words are no call
         self.command, self.log = found.command.decode().replace("-", "_"), found.log
-        self.names, self.flag = list(found.files), found.flag
+        self.names, self.flag, self.of_keys = list(found.files), found.flag, found.of_keys
         self.texts = [files.get(name, DIRECTORY) for name in self.names]
         self.ruling = found.ruling if self.command == "rule" else None
         self.unit = found.unit
@@ -304,8 +304,8 @@ class InProcess:
             "sketch": lambda: cadf.sketch(first, *(number or None for number in self.sketched)),
             "inventory": lambda: cadf.inventory(first),
             "seal": lambda: cadf.seal(first),
-            "prove": lambda: cadf.prove(first, self.texts[1:]),
-            "verify": lambda: cadf.verify(*self.texts, self.flag),
+            "prove": lambda: cadf.prove(first, self.texts[1:], self.of_keys),
+            "verify": lambda: cadf.verify(*self.texts, self.flag, self.of_keys),
             "sealed": lambda: cadf.sealed(first),
             "growth": lambda: cadf.growth(first, self.texts[1:]),
             "grew": lambda: cadf.grew(*self.texts),
@@ -332,6 +332,7 @@ class InProcess:
         name = self.command.replace("_", "-")
         if self.flag:
             name = {"show": "conflicts", "verify": "absent"}[name]
+        name += "-keys" if self.of_keys else ""
         return [name.encode(), *before, *self.names]
 
 

@@ -183,8 +183,11 @@ def test_order_in_python(monkeypatch):
     cadf.rehearse("g", 2, "s")
     cadf.sketch("v", 3, 1)
     cadf.prove("f", ["a", "b"])
+    cadf.prove("k", ["a", "b"], True)
     cadf.verify("s", "f", "p", True)
+    cadf.verify("s", "k", "p", keys=True)
     assert given == [("missing", (b"a", b"b")), ("missing_by", (b"a", b"b")), ("missing_by_sketch", (b"a", b"b")),
                      ("join", ((b"a", b"b"), 2, b"g")), ("split", (b"day", (b"a", b"b"), 2, b"g")),
                      ("rule", (ord("E"), b"k", 7, b"v")), ("rehearse", (b"g", 2, b"s")), ("sketch", (3, 1, b"v")),
-                     ("prove", (b"f", (b"a", b"b"), 2)), ("verify", (True, b"s", b"f", b"p"))]
+                     ("prove", (False, b"f", (b"a", b"b"), 2)), ("prove", (True, b"k", (b"a", b"b"), 2)),
+                     ("verify", (False, True, b"s", b"f", b"p")), ("verify", (True, False, b"s", b"k", b"p"))]

@@ -4,11 +4,14 @@ from tests.reference.atoms import with_carriers
 from tests.reference.events import Fault, document, is_name
 from tests.reference.growth_files import growth_of, grown
 from tests.reference.inventory_files import inventory_of, missing_by, read_inventory
+from tests.reference.key_files import read_keys
 from tests.reference.list_files import left_by, read_erased_list, read_sealed_list, sealed_list_of
 from tests.reference.rehearsal import read_script, rehearsal_text, sites_of
 from tests.reference.replica_files import file_of, read_file
 from tests.reference.rulings import check_key, place_of, ruled
-from tests.reference.seal_files import proof_of, read_proof, read_seal, seal_of, verified
+from tests.reference.seal_files import (
+    keys_proof_of, proof_of, read_proof, read_seal, seal_of, verified, verified_keys,
+)
 from tests.reference.shown_texts import check_line, conflict_text, log_text
 from tests.reference.sketch_files import cells_of, missing_by_sketch, read_sketch, salt_of, sketch_of
 from tests.reference.split_files import UNITS, split_of
@@ -19,7 +22,7 @@ WORDS_WANTED = {b"join": 1, b"split": 1, b"missing": 2, b"missing-by": 2, b"inve
                 b"rehearse": 3, b"rule": 4, b"sketch": 1, b"missing-by-sketch": 2, b"seal": 1, b"prove": 2, b"verify": 3,
                 b"sealed": 1, b"growth": 2, b"grew": 3, b"omit": 2}
 SEVERAL = (b"join", b"split", b"inventory", b"show", b"check", b"rule", b"sketch", b"seal", b"prove", b"sealed", b"growth", b"omit")
-FLAGS = {b"show": b"--conflicts", b"verify": b"--absent"}
+FLAGS = {b"show": [b"--conflicts"], b"verify": [b"--absent", b"--keys"], b"prove": [b"--keys"]}
 OPTIONS = {b"join": [b"--log"], b"split": [b"--by", b"--log"], b"sketch": [b"--cells", b"--salt"],
            b"grew": [b"--erased"]}  # those with a value
 # Options with a file, which may be given again and again: a further file of the sender's or of the receiver's.
@@ -47,7 +50,7 @@ class Call:
             raise Usage
         if not words or words[0] not in WORDS_WANTED:
             raise Usage
-        self.command, self.given, self.flag, self.files = words[0], {}, False, []
+        self.command, self.given, self.flags, self.files = words[0], {}, [], []
         self.again = {option: [] for option in AGAIN.get(self.command, [])}
         self.rest = list(words[1:])
         while self.rest:
@@ -79,14 +82,24 @@ class Call:
         elif word == b"--":
             self.files += self.rest
             self.rest = []
-        elif word == FLAGS.get(self.command) and not self.flag:
-            self.flag = True
+        elif word in FLAGS.get(self.command, []) and word not in self.flags:
+            self.flags.append(word)
         elif option in self.again:
             self.again[option].append(value if is_joined else self.value())
         elif option in OPTIONS.get(self.command, []) and option not in self.given:
             self.given[option] = value if is_joined else self.value()
         else:
             raise Usage
+
+    @property
+    def flag(self):
+        """Whether the flag of what is written or asked is given, which isn't the one for keys."""
+        return any(flag != b"--keys" for flag in self.flags)
+
+    @property
+    def of_keys(self):
+        """Whether a key file stands in place of facts."""
+        return b"--keys" in self.flags
 
     def value(self):
         if not self.rest or self.rest[0].startswith(b"-") and self.rest[0] != b"-":
@@ -100,6 +113,7 @@ def read_input(data):
 
 # How the first inputs of a command are read, and how its last ones, where they aren't read as any input.
 FIRST_READ = {b"verify": [read_seal], b"growth": [read_sealed_list], b"omit": [read_erased_list]}
+KEYS_READ = {b"prove": [read_keys], b"verify": [read_seal, read_keys]}  # with --keys
 LAST_READ = {b"missing-by": [read_inventory], b"missing-by-sketch": [read_sketch], b"verify": [read_proof]}
 ALL_READ = {b"grew": [read_seal, read_seal, read_proof, read_erased_list]}
 # What is made of one input and the files behind it.
@@ -131,7 +145,7 @@ def opened(call, files):
 def inputs_of(call, files):
     """The log and the contents of each input."""
     contents = opened(call, files)
-    first, last = FIRST_READ.get(call.command, []), LAST_READ.get(call.command, [])
+    first, last = (KEYS_READ if call.of_keys else FIRST_READ).get(call.command, []), LAST_READ.get(call.command, [])
     reads = ALL_READ.get(call.command) or [*first, *[read_input] * (len(contents) - len(first) - len(last)), *last]
     return [loaded(number, data, read) for number, (data, read) in enumerate(zip(contents, reads), 1)]
 
@@ -177,11 +191,12 @@ def written(call, files):
     log = log_written(call, [log for log, _ in inputs])
     sets = [contents for _, contents in inputs]
     if call.command == b"verify":
-        return verified(*sets, "absent" if call.flag else "present")
+        return (verified_keys if call.of_keys else verified)(*sets, "absent" if call.flag else "present")
     if call.command == b"grew":
         return grown(*sets, *[None] * (4 - len(sets)))
     if call.command in BEFORE_FILES:
-        return BEFORE_FILES[call.command](log, sets[0], set().union(*sets[1:]))
+        made = keys_proof_of if call.of_keys else BEFORE_FILES[call.command]
+        return made(log, sets[0], set().union(*sets[1:]))
     if call.command in LAST_READ:
         sets = [set().union(*sets[:-1]), sets[-1]]
     else:

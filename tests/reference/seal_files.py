@@ -219,11 +219,20 @@ def proof_with(log, parts):
     return sealed(head(PROOF, log) + [spelled_part(*part) for part in parts])
 
 
+def parts_for(asked, leaves):
+    """The parts that show of the asked digests whether they are among the leaves, which rise."""
+    shown = set().union(*(shown_for(leaf, leaves) for leaf in asked))
+    return parts_of(leaves, dict.fromkeys(shown, "P"))
+
+
 def proof_of(log, facts, atoms):
     """The proof of which of the facts are in the set of the atoms."""
-    leaves = leaves_of(atoms)
-    shown = set().union(*(shown_for(leaf, leaves) for leaf in leaves_of(facts)))
-    return proof_with(log, parts_of(leaves, dict.fromkeys(shown, "P")))
+    return proof_with(log, parts_for(leaves_of(facts), leaves_of(atoms)))
+
+
+def keys_proof_of(log, keys, atoms):
+    """The proof of which of the keys facts of the set have."""
+    return proof_with(log, [("K", None), *parts_for(map(leaf_of, keys), keys_of(atoms))])
 
 
 # ---- What a proof says
@@ -276,37 +285,56 @@ class Shown:
         return "absent" if any(None not in pair and pair[0] < leaf < pair[1] for pair in around) else None
 
 
-def states_of(facts, seal, proof):
-    """Of each fact whether it is `present` or `absent`, by what a proof shows under a seal; refusals are those of a proof."""
-    count, root = seal.facts
-    if not can_be_of(proof.parts, count, count):
+def states_of(leaves, count, root, parts, has_others):
+    """Of each digest whether it is `present` or `absent`, by what the parts of a tree show under its number and root.
+
+    Refusals are those of a proof; it `has_others` if it has parts of the other tree.
+    """
+    if not can_be_of(parts, count, count):
         raise Fault("other count")
-    tree = tree_of(proof.parts)
+    tree = tree_of(parts)
     if any(root_without(letter, tree, count) != root for letter in "AG"):
         raise Fault("other root")
-    shown = Shown(proof.parts)
+    shown = Shown(parts)
     shown.check()
-    leaves = list(map(leaf_of, facts))
     needed = set().union(*(shown.needed(leaf) for leaf in leaves))
-    letters = "".join(letter for letter, _ in proof.parts)
-    if "NHH" in letters or len(needed) < sum(map(letters.count, "PAG")) or proof.keys is not None:
+    letters = "".join(letter for letter, _ in parts)
+    if "NHH" in letters or len(needed) < sum(map(letters.count, "PAG")) or has_others:
         raise Fault("not needed")
     return [shown.state(leaf) for leaf in leaves]
 
 
+def lines_of(kind, asked, states, wanted):
+    """The lines of facts or keys, each of which has to be `present` or `absent`, as wanted."""
+    for number, state in enumerate(states, 1):
+        if state != wanted:
+            raise Fault("%s %d: %s" % (kind, number, state or "not shown"))
+    return b"".join(line_of(wanted, each) for each in asked)
+
+
 def verified(seal, facts, proof, wanted):
-    """The lines that verify writes of the facts, each of which has to be `present` or `absent`, as wanted."""
+    """The lines that verify writes of the facts."""
     if not facts:
         raise Fault("input 2: no facts")
     facts = sorted(facts)
     try:
-        states = states_of(facts, seal, proof)
+        states = states_of(list(map(leaf_of, facts)), *seal.facts, proof.parts, proof.keys is not None)
     except Fault as fault:
         raise Fault("input 3: " + fault.said)
-    for number, state in enumerate(states, 1):
-        if state != wanted:
-            raise Fault("fact %d: %s" % (number, state or "not shown"))
-    return b"".join(line_of(wanted, fact) for fact in facts)
+    return lines_of("fact", facts, states, wanted)
+
+
+def verified_keys(seal, keys, proof, wanted):
+    """The lines that verify writes of the keys, which stand as in their file."""
+    if not keys:
+        raise Fault("input 2: no keys")
+    if proof.keys is None:
+        raise Fault("input 3: no tree")
+    try:
+        states = states_of(list(map(leaf_of, keys)), *seal.keys, proof.keys, proof.parts != [])
+    except Fault as fault:
+        raise Fault("input 3: " + fault.said)
+    return lines_of("key", keys, states, wanted)
 
 
 def line_of(state, fact):

@@ -10,6 +10,7 @@ from tests.tables import rows as worked, sketch_rows as sketched, split_rows, wo
 from tests.tables.document_rows import BOTH, NORTH
 from tests.tables.exchange_rows import OTHER_LOG
 from tests.tables.growth_rows import erased, growth, sealed
+from tests.tables.key_rows import E1, E2, keys, keys_proof, told as told_of_keys
 from tests.tables.proof_rows import WRONG, told as told_of
 from tests.tables.seal_rows import proof, seal
 from tests.tables.texts import C1, C2, CF, K1, KF, V1, V2, conflicts, data, digits, document, inventory, log, replica
@@ -21,7 +22,7 @@ CALLS = {
     **{name: [name] for name in (
         "run_join", "run_missing", "run_missing_by", "run_inventory", "run_rule", "run_rehearse", "run_show", "run_check")},
     **{"ask_" + name: ["run", "Request::accepts"] for name in (
-        "join", "split", "missing", "missing_by", "inventory", "missing_by_sketch", "seal", "prove", "verify", "sealed", "growth", "grew",
+        "join", "split", "missing", "missing_by", "inventory", "missing_by_sketch", "seal", "prove", "prove_keys", "verify", "verify_keys", "sealed", "growth", "grew",
         "omit", "rule", "rehearse", "show", "check")},
     "ask_sketch": ["run", "Cells::by_default"],
     "fault": ["status"],
@@ -61,8 +62,12 @@ def engine(command, readers, to=None, asks=False):
         own = [own[1], "".join(own[3:])]
     if name == "show":
         own = ["conflicts" if own else "log"]
+    if name in ("prove", "verify") and "--keys" in own:
+        call += "_keys"
     if name == "verify":
-        own = ["absent" if own else "present"]
+        own = ["absent" if "--absent" in own else "present"]
+    if name == "prove":
+        own = []
     if name == "grew":
         own = ["erased" if own else "all"]
     if name == "sketch":
@@ -181,6 +186,9 @@ READ = [
     ("seal", [made.NOTHING_TREE], seal()),
     ("prove", [EMPTY_LOG, NONE], proof([], [])),
     ("prove", [made.NOTHING_TREE, EMPTY_LOG, NONE], proof([], [])),
+    ("prove --keys", [keys(), EMPTY_LOG, NONE], keys_proof([], [])),
+    ("verify --keys", [seal(C1), keys(E1), keys_proof([E1], [C1])], told_of_keys("present", [E1])),
+    ("verify --keys --absent", [seal(), keys(E1), keys_proof([], [])], told_of_keys("absent", [E1])),
     ("verify", [seal(C1), made.EVENT_TREE, proof([digits(C1)], [digits(C1)])], told_of("present", [C1])),
     ("verify --absent", [seal(), made.EVENT_TREE, proof([], [])], told_of("absent", [C1])),
     ("sealed", [made.NOTHING_TREE], sealed()),
@@ -240,6 +248,8 @@ WRITTEN = [
     ("seal", [made.EVENT_TREE], seal(C1), LINES),
     ("prove", [V1, made.TWO], proof([digits(C1)], [digits(C1), digits(C2)]), LINES),
     ("verify", [seal(C1, C2), made.TWO, proof([digits(C1), digits(C2)], [digits(C1), digits(C2)])], told_of("present", [C1, C2]), HEADS),
+    ("prove --keys", [keys(E1), made.TWO], keys_proof([E1], [C1, C2]), LINES),
+    ("verify --keys", [seal(C1, C2), keys(E1, E2), keys_proof([E1, E2], [C1, C2])], told_of_keys("present", [E1, E2]), HEADS),
     ("sealed", [made.EVENT_TREE], sealed(C1), LINES),
     ("growth", [sealed(C1), made.TWO], growth([C1], [C1, C2]), LINES),
     ("grew", [seal(C1), seal(C1, C2), STEP], "added 1\n", WHOLE),
@@ -281,6 +291,7 @@ OTHER, OTHER_NOTED, OTHER_SKETCHED = reader(OTHER_LOG), reader(inventory(log="h"
 ONE_SEALED, ONE_PROVED = reader(seal(C1)), reader(proof([digits(C1)], [digits(C1)]))
 SEALED_NONE, OTHER_PROVED = reader(seal()), reader(proof([], [], log='"h"'))
 OTHER_SEALED, GROWN_NONE = reader(seal(log='"h"')), reader(growth([], []))
+ASKED, OTHER_ASKED, ASKED_PROVED = reader(keys(E1)), reader(keys(E1, log="h")), reader(keys_proof([E1], [C1]))
 LISTED_NONE, OTHER_LISTED, ERASED_NONE, OTHER_ERASED = map(reader, (sealed(), sealed(log="h"), erased(), erased(log="h")))
 NOT_JSON_1, NOT_JSON_2 = ["Input", 1, "Json", "NotJson"], ["Input", 2, "Json", "NotJson"]
 IN_ORDER = [
@@ -341,16 +352,39 @@ IN_ORDER = [
     ("verify", [SEALED_NONE, EVENT, OTHER_PROVED], ["OtherLog", 3]),
     ("verify", [SEALED_NONE, EVENT, ONE_PROVED], ["Unverified", "Proof", "OtherCount"]),
     ("verify", [ONE_SEALED, EVENT, reader(proof([digits(C2)], [digits(C2)]))], ["Unverified", "Proof", "OtherRoot"]),
-    ("verify", [ONE_SEALED, EVENT, reader(proof([], [digits(C1)]))], ["Unverified", "NotShown", 1]),
+    ("verify", [ONE_SEALED, EVENT, reader(proof([], [digits(C1)]))], ["Unverified", "NotShown", "Fact", 1]),
     ("verify", [reader(seal(C1, C2)), EVENT, reader(proof([digits(C1), digits(C2)], [digits(C1), digits(C2)]))], ["Unverified", "Proof", "NotNeeded"]),
     ("verify", [ONE_SEALED, GOOD, OTHER_PROVED], ["OtherLog", 3]),
     *(("verify", [reader(of), reader(replica(*facts)), reader(by)], ["Unverified", "Proof", fault]) for of, by, word, facts, fault in WRONG
       if word == "present" and fault in ("NoTree", "Order", "NeighbourHidden") and len(by) < 1000),
     ("verify", [SEALED_NONE, GOOD, ONE_PROVED], ["NoFacts", 2]),
     ("verify --absent", [ONE_SEALED, reader(made.NOTHING_TREE), ONE_PROVED], ["NoFacts", 2]),
-    ("verify", [SEALED_NONE, EVENT, reader(proof([], []))], ["Unverified", "Absent", 1]),
-    ("verify --absent", [ONE_SEALED, EVENT, ONE_PROVED], ["Unverified", "Present", 1]),
+    ("verify", [SEALED_NONE, EVENT, reader(proof([], []))], ["Unverified", "Absent", "Fact", 1]),
+    ("verify --absent", [ONE_SEALED, EVENT, ONE_PROVED], ["Unverified", "Present", "Fact", 1]),
     ("verify", [ONE_SEALED, EVENT, ONE_PROVED], ["WriteFault"]),
+    ("prove --keys", [FAILING, BAD], ["ReadFault", 1]),
+    ("prove --keys", [BAD, FAILING], ["Input", 1, "File", "Truncated"]),
+    ("prove --keys", [GOOD, FAILING], ["Input", 1, "File", "Version"]),
+    ("prove --keys", [OTHER_ASKED, EVENT, FAILING], ["ReadFault", 3]),
+    ("prove --keys", [OTHER_ASKED, EVENT], ["NoLog"]),
+    ("prove --keys", [OTHER_ASKED, GOOD, OTHER], ["OtherLog", 3]),
+    ("prove --keys", [OTHER_ASKED, GOOD, EVENT], ["OtherLog", 1]),
+    ("prove --keys", [ASKED, GOOD], ["WriteFault"]),
+    ("verify --keys", [FAILING, BAD, BAD], ["ReadFault", 1]),
+    ("verify --keys", [SEALED_NONE, FAILING, BAD], ["ReadFault", 2]),
+    ("verify --keys", [SEALED_NONE, BAD, FAILING], ["Input", 2, "File", "Truncated"]),
+    ("verify --keys", [SEALED_NONE, EVENT, FAILING], ["Input", 2, "File", "Version"]),
+    ("verify --keys", [SEALED_NONE, OTHER_ASKED, FAILING], ["ReadFault", 3]),
+    ("verify --keys", [SEALED_NONE, OTHER_ASKED, SEALED_NONE], ["Input", 3, "File", "Version"]),
+    ("verify --keys", [SEALED_NONE, OTHER_ASKED, OTHER_PROVED], ["OtherLog", 2]),
+    ("verify --keys", [SEALED_NONE, ASKED, OTHER_PROVED], ["OtherLog", 3]),
+    ("verify --keys", [SEALED_NONE, reader(keys()), ONE_PROVED], ["NoKeys", 2]),
+    ("verify --keys", [ONE_SEALED, ASKED, ONE_PROVED], ["Unverified", "Proof", "NoTree"]),
+    ("verify --keys", [SEALED_NONE, ASKED, ASKED_PROVED], ["Unverified", "Proof", "OtherCount"]),
+    ("verify --keys", [ONE_SEALED, ASKED, reader(keys_proof([], [C1]))], ["Unverified", "NotShown", "Key", 1]),
+    ("verify --keys", [SEALED_NONE, ASKED, reader(keys_proof([E1], []))], ["Unverified", "Absent", "Key", 1]),
+    ("verify --keys --absent", [ONE_SEALED, ASKED, ASKED_PROVED], ["Unverified", "Present", "Key", 1]),
+    ("verify --keys", [ONE_SEALED, ASKED, ASKED_PROVED], ["WriteFault"]),
     ("sealed", [EVENT, GOOD, OTHER], ["OtherLog", 3]),
     ("growth", [FAILING, BAD], ["ReadFault", 1]),
     ("growth", [BAD, FAILING], ["Input", 1, "File", "Truncated"]),

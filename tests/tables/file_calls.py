@@ -1,13 +1,13 @@
 """Calls of replica files and inventory files: whole and damaged ones, in pieces, within limits, with failing readers
 and writers; of the two texts, whose rows are in log_rows.py, of seals and proofs, whose rows are in seal_rows.py and
-proof_rows.py, and of sketches, whose rows are in sketched_rows.py.
+proof_rows.py, of keys, whose rows are in keyed_rows.py, and of sketches, whose rows are in sketched_rows.py.
 
 Words: a reading is a limit, the bytes of a read and the number of the read that fails (0 is none); a writer is the
 bytes of a write, what it does (`never`, `refuses` or `takes-nothing`) and at which write.
 """
 import json
 
-from tests.tables import log_rows, proof_rows, seal_rows, sketched_rows
+from tests.tables import keyed_rows, log_rows, proof_rows, seal_rows, sketched_rows
 from tests.tables.texts import (
     B1, B3, BF, C1, C2, CAUSES, CF, E3, K1, KF, LIMIT, LIMITS, PIECES, S0, S1, S2, SHOWN, SINKS, T3, WHOLE, digits, inventory, line, nested,
     quoted, refused, replica, said, tree,
@@ -30,6 +30,7 @@ CALLS = {
     **log_rows.CALLS,
     **seal_rows.CALLS,
     **proof_rows.CALLS,
+    **keyed_rows.CALLS,
     **sketched_rows.CALLS,
 }
 
@@ -443,5 +444,5 @@ ROWS += [("fault_text", fault.split(), ["ok", said(fault)], REFUSAL)
          for fault in (*SHOWN, *("Line %d %s" % each for each in enumerate(CAUSES, 3)))]
 ROWS.append(("fault_text", ["Memory"], ["ok", "out of memory"], "Fault lines"))
 ROWS += log_rows.ROWS
-ROWS += seal_rows.ROWS + proof_rows.ROWS
+ROWS += seal_rows.ROWS + proof_rows.ROWS + keyed_rows.ROWS
 ROWS += sketched_rows.ROWS

@@ -196,7 +196,7 @@ WRONG = [
 def words_of(fault):
     """The words of a fault of a fact by its number, or of the proof."""
     name, *number = fault.split()
-    return [name, *number] if number else ["Proof", name]
+    return [name, "Fact", *number] if number else ["Proof", name]
 
 
 def verified(seal, proof, word, facts, answer, size=4096):

@@ -1,7 +1,8 @@
 """Worked rows of documents, of replica files in both formats, of rulings, inventories and rehearsals: what is written is
 told here, by hashlib or in full. Those of documents stand in document_rows.py, those of several inputs in
 exchange_rows.py, those of sketches in sketch_rows.py, those of split files in split_rows.py, those of proofs in
-verify_rows.py, those of growth and of what is left out in growth_rows.py; damaged files in file_calls.py.
+verify_rows.py, those of keys in key_rows.py, those of growth and of what is left out in growth_rows.py; damaged files
+in file_calls.py.
 
     python3 -m tests.tables.rows [BINARY]
 
@@ -12,7 +13,7 @@ import sys
 
 from tests.generated.compare import alike, answered
 from tests.reference.command import Answer, answer
-from tests.tables import document_rows, exchange_rows, file_calls, growth_rows, sketch_rows, split_rows, verify_rows
+from tests.tables import document_rows, exchange_rows, file_calls, growth_rows, key_rows, sketch_rows, split_rows, verify_rows
 from tests.tables.replica_calls import ASKING, EXCHANGE, NO_SCRIPTS, STOPPED, TURN_FAULTS
 from tests.tables.texts import B1, BF, C1, CF, K1, KF, S1, S2, conflicts, data, digits, entry, inventory, line, log, replica, said, tree
 from tests.tables.worked_files import (
@@ -134,8 +135,8 @@ def rows_of(module):
 
 
 def all_rows():
-    """The rows of this file, and those of documents, of several inputs, of sketches, of split files, of proofs and of growth."""
-    for module in (sys.modules[__name__], document_rows, exchange_rows, sketch_rows, split_rows, verify_rows, growth_rows):
+    """The rows of this file, and those of documents, of several inputs, of sketches, of split files, of proofs, of growth and of keys."""
+    for module in (sys.modules[__name__], document_rows, exchange_rows, sketch_rows, split_rows, verify_rows, growth_rows, key_rows):
         yield from rows_of(module)
 
 

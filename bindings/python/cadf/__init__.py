@@ -205,23 +205,27 @@ def seal(value: Input) -> bytes:
     return _call("seal", _ROOM, _given(_of(value)))
 
 
-def prove(facts: Input, inputs: Iterable[Input]) -> bytes:
+def prove(facts: Input, inputs: Iterable[Input], keys: bool = False) -> bytes:
     """Returns the proof file, under the seal of all inputs, of which facts they have and which they don't.
+
+    With `keys`, `facts` is a key file, and the proof is of which of its keys facts of the inputs have.
 
     Refused: `facts` or an input is refused, or is of another log, or no input names a log. `facts` is input 1. OutOfMemory.
     """
     asked, texts = _of(facts), _texts(inputs)
-    return _call("prove", _ROOM + 4 * len(asked), _given(asked), *_listed(texts))
+    return _call("prove", _ROOM + 4 * len(asked), bool(keys), _given(asked), *_listed(texts))
 
 
-def verify(seal: Input, facts: Input, proof: Input, absent: bool = False) -> bytes:
+def verify(seal: Input, facts: Input, proof: Input, absent: bool = False, keys: bool = False) -> bytes:
     """Returns a line for each fact, with its digest: by the proof it is among what was sealed; with `absent` it isn't.
+
+    With `keys`, `facts` is a key file, and each key is that of a fact among what was sealed, or of none.
 
     Refused: one of them is refused or of another log, there is no fact, a fact isn't as asked, or the proof doesn't show
     it, with its number in `place`. OutOfMemory.
     """
     texts = _of(seal), _of(facts), _of(proof)
-    return _call("verify", _room(texts[1]), bool(absent), *map(_given, texts))
+    return _call("verify", _room(texts[1]), bool(keys), bool(absent), *map(_given, texts))
 
 
 def sealed(value: Input) -> bytes:

@@ -89,6 +89,24 @@ class Calls(unittest.TestCase):
         self.refuses(1, "input 1: other log", cadf.prove, '{"id":"h","events":[]}', both)
         self.refuses(1, "no log named", cadf.prove, A, [])
 
+    def test_keys_are_shown(self):
+        def listed(*lines, log="g"):
+            text = "".join(line + "\n" for line in ("CADF-KEYS 1", 'L "%s"' % log, *lines)).encode()
+            return text + b"Z " + hashlib.sha256(text).hexdigest().encode() + b"\n"
+
+        both, key, other = [A, B], '["P","name"]', '["P","none"]'
+        seal, digest = cadf.seal(cadf.join(both)), hashlib.sha256(key.encode()).hexdigest().encode()
+        proof = cadf.prove(listed(key), both, keys=True)
+        self.assertTrue(proof.startswith(b'CADF-PROOF 1\nL "g"\nK\nP %s\nZ ' % digest))
+        self.assertEqual(cadf.verify(seal, listed(key), proof, keys=True), b'present P "name" %s\n' % digest)
+        self.assertEqual(self.refuses(1, "key 1: present", cadf.verify, seal, listed(key), proof, True, True).place, "key 1")
+        absent = cadf.prove(listed(other), both, True)
+        self.assertTrue(cadf.verify(seal, listed(other), absent, absent=True, keys=True).startswith(b'absent P "none" '))
+        self.refuses(1, "key 1: absent", cadf.verify, seal, listed(other), absent, False, True)
+        self.refuses(1, "input 3: no tree", cadf.verify, seal, listed(key), cadf.prove(A, both), False, True)
+        self.refuses(1, "input 2: no keys", cadf.verify, seal, listed(), proof, False, True)
+        self.refuses(1, "input 1: other log", cadf.prove, listed(key, log="h"), both, True)
+
     def test_growth_is_shown(self):
         both = cadf.join([A, B])
         proof, back = cadf.growth(cadf.sealed(A), [A, B]), cadf.growth(cadf.sealed(both), [A])

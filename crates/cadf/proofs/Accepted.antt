@@ -1,5 +1,5 @@
 -- What the words of a command line ask can be asked of as many files as they name.
-use Rattle.cadf.proofs.Common.{◌≡◌, ℕ, true, List, [], ◌∷◌, length, Option, Some, None, Ok, Err, ok_or, IfOk, IsSomeAnd, refl, ap, arith, le-leb, lt-ltb, length-append, length-map, Row, is_place, is_site_count, unit_named, LogName, Sites, Key, Place, Cells, Salt, NoUnit, are_cells, is_salt, accepts, Asked, Request, Join, Split, Missing, MissingBy, Inventory, Sketch, MissingBySketch, Seal, Prove, Verify, Sealed, Growth, Grew, Omit, Rule, Rehearse, Show, Check, IsAsked, MakesRequest, Reading, ◌>>=◌, IsAccepted, if_given, letter_of, name_of, number_of, texts}
+use Rattle.cadf.proofs.Common.{◌≡◌, ℕ, true, false, List, [], ◌∷◌, length, Option, Some, None, Ok, Err, ok_or, IfOk, IsSomeAnd, refl, ap, arith, le-leb, lt-ltb, length-append, length-map, Row, is_place, is_site_count, unit_named, LogName, Sites, Key, Place, Cells, Salt, NoUnit, are_cells, is_salt, accepts, Asked, Request, Join, Split, Missing, MissingBy, Inventory, Sketch, MissingBySketch, Seal, Prove, Verify, Sealed, Growth, Grew, Omit, Rule, Rehearse, Show, Check, IsAsked, MakesRequest, Reading, ◌>>=◌, IsAccepted, if_given, letter_of, name_of, number_of, texts}
 use Rattle.clap.specs.Walk.{Text}
 use Rattle.cadf_tool.specs.declared.request.Request.TheVariants as ask
 
@@ -29,8 +29,10 @@ accepted name rows (Inventory files) is = refl
 accepted name rows (Sketch cells salt files) is = two (if_given (number_of Cells are_cells) cells) (if_given (number_of Salt is_salt) salt) ask.Sketch _ (λ _ _. refl)
 accepted name rows (MissingBySketch from sketch) is = le-leb 1 _ (omega (arith, length-append (texts from.items) (sketch.now ∷ [])))
 accepted name rows (Seal files) is = refl
-accepted name rows (Prove facts files) is = le-leb 1 _ (omega arith)
-accepted name rows (Verify absent seal facts proof) is = refl
+accepted name rows (Prove false facts files) is = le-leb 1 _ (omega arith)
+accepted name rows (Prove true facts files) is = le-leb 1 _ (omega arith)
+accepted name rows (Verify false absent seal facts proof) is = refl
+accepted name rows (Verify true absent seal facts proof) is = refl
 accepted name rows (Sealed files) is = refl
 accepted name rows (Growth sealed files) is = le-leb 1 _ (omega arith)
 accepted name rows (Grew None old new proof) is = refl

@@ -3,7 +3,7 @@
 --     IsRead expected r    r is that result, or memory ran out
 --     names_of q           the names of its files, in the order in which they are opened and read
 --     IsAccepted q         what q asks can be asked of so many files
-use Rattle.std.specs.Prelude.{◌≡◌, ◌⊎◌, ℕ, ◌^◌, nat_le, nat_lt, ◌&&◌, Bool, true, if◌then◌else◌, List, [], ◌∷◌, ◌++◌, map, length, slice_index, decimal}
+use Rattle.std.specs.Prelude.{◌≡◌, ◌⊎◌, ℕ, ◌^◌, nat_le, nat_lt, ◌&&◌, Bool, true, false, if◌then◌else◌, List, [], ◌∷◌, ◌++◌, map, length, slice_index, decimal}
 use Rattle.std.specs.Prelude.{Option, Some, None, is_some, ok_or, Result, Ok, Err, IfOk}
 use Rattle.std.specs.Borrow.{Bor}
 use Rattle.std.specs.Str.{bytes_eq}
@@ -81,8 +81,10 @@ asked_by (Sketch cells salt files) = do
   Ok (ask.Sketch count number)
 asked_by (MissingBySketch from sketch) = Ok ask.MissingBySketch
 asked_by (Seal files) = Ok ask.Seal
-asked_by (Prove facts files) = Ok ask.Prove
-asked_by (Verify absent seal facts proof) = Ok (ask.Verify absent)
+asked_by (Prove false facts files) = Ok ask.Prove
+asked_by (Prove true facts files) = Ok ask.ProveKeys
+asked_by (Verify false absent seal facts proof) = Ok (ask.Verify absent)
+asked_by (Verify true absent seal facts proof) = Ok (ask.VerifyKeys absent)
 asked_by (Sealed files) = Ok ask.Sealed
 asked_by (Growth sealed files) = Ok ask.Growth
 asked_by (Grew erased old new proof) = Ok (ask.Grew (is_some erased))
@@ -116,8 +118,8 @@ names_of (Inventory files) = texts files.items
 names_of (Sketch cells salt files) = texts files.items
 names_of (MissingBySketch from sketch) = texts from.items ++ sketch.now ∷ []
 names_of (Seal files) = texts files.items
-names_of (Prove facts files) = facts.now ∷ texts files.items
-names_of (Verify absent seal facts proof) = seal.now ∷ facts.now ∷ proof.now ∷ []
+names_of (Prove keys facts files) = facts.now ∷ texts files.items
+names_of (Verify keys absent seal facts proof) = seal.now ∷ facts.now ∷ proof.now ∷ []
 names_of (Sealed files) = texts files.items
 names_of (Growth sealed files) = sealed.now ∷ texts files.items
 names_of (Grew erased old new proof) = old.now ∷ new.now ∷ proof.now ∷ text_given erased

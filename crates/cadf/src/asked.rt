@@ -32,10 +32,23 @@ pub(crate) fn asked_of(alloc: Global, request: &Request<'_>) -> Result<Asked, Ar
         }
         Request::MissingBySketch { .. } => Asked::MissingBySketch,
         Request::Seal { .. } => Asked::Seal,
-        Request::Prove { .. } => Asked::Prove,
-        Request::Verify { absent, .. } => {
+        Request::Prove { keys: false, .. } => Asked::Prove,
+        Request::Prove { keys: true, .. } => Asked::ProveKeys,
+        Request::Verify {
+            keys: false,
+            absent,
+            ..
+        } => {
             let absent = *absent;
             Asked::Verify { absent }
+        }
+        Request::Verify {
+            keys: true,
+            absent,
+            ..
+        } => {
+            let absent = *absent;
+            Asked::VerifyKeys { absent }
         }
         Request::Sealed { .. } => Asked::Sealed,
         Request::Growth { .. } => Asked::Growth,
@@ -90,7 +103,7 @@ pub(crate) fn names_of<'a>(alloc: Global, request: &Request<'a>) -> Result<Vec<&
         Request::Sketch { files, .. } => both(alloc, files, &[]),
         Request::MissingBySketch { from, sketch } => both(alloc, from, &[*sketch]),
         Request::Seal { files } => both(alloc, files, &[]),
-        Request::Prove { facts, files } => both(alloc, &[*facts], files),
+        Request::Prove { facts, files, .. } => both(alloc, &[*facts], files),
         Request::Verify {
             seal,
             facts,

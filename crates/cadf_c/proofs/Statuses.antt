@@ -1,5 +1,5 @@
 -- Which statuses faults have, and what is told with each.
-use Rattle.cadf_c.proofs.Common.{◌≡◌, ◌≤◌, ◌⊎◌, inl, inr, ℕ, List, length, true, true≢false, refl, sym, ap, ◌∙◌, subst, Result, Ok, Err, IfOk, IfErr, IsErrAnd, ℤ, pos, arith, ArgumentFault, LogName, Sites, Letter, Key, Place, Cells, Salt, NoUnit, NoMemory, argument_status_of, argument_text_of, ToolFault, Input, NoLog, OtherLog, NoFacts, TooFewCells, Script, Rehearse, NoValue, Unverified, Ungrown, ReadFault, WriteFault, Request, status_of, IsHandedOut, IsMadeFor, IsFirstFor, is_of_memory, IsAsked, IsRefused, IsCall}
+use Rattle.cadf_c.proofs.Common.{◌≡◌, ◌≤◌, ◌⊎◌, inl, inr, ℕ, List, length, true, true≢false, refl, sym, ap, ◌∙◌, subst, Result, Ok, Err, IfOk, IfErr, IsErrAnd, ℤ, pos, arith, ArgumentFault, LogName, Sites, Letter, Key, Place, Cells, Salt, NoUnit, NoMemory, argument_status_of, argument_text_of, ToolFault, Input, NoLog, OtherLog, NoFacts, NoKeys, TooFewCells, Script, Rehearse, NoValue, Unverified, Ungrown, ReadFault, WriteFault, Request, status_of, IsHandedOut, IsMadeFor, IsFirstFor, is_of_memory, IsAsked, IsRefused, IsCall}
 use Rattle.cadf_tool.specs.declared.fault.ToolFault.TheVariants.{Memory}
 
 -- where no read and no write fails
@@ -8,6 +8,7 @@ one_or_four (Input n f) h = inl refl
 one_or_four NoLog h = inl refl
 one_or_four (OtherLog n) h = inl refl
 one_or_four (NoFacts n) h = inl refl
+one_or_four (NoKeys n) h = inl refl
 one_or_four (TooFewCells n cells) h = inl refl
 one_or_four (Script line) h = inl refl
 one_or_four (Rehearse f) h = inl refl

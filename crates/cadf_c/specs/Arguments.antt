@@ -6,6 +6,8 @@
 --     ruling_asked letter key place        of `rule`
 --     rehearsal_asked log sites            of `rehearse`
 --     sketch_asked cells salt              of `sketch`
+--     proof_asked keys                     of `prove`, for facts or for keys
+--     verdict_asked keys absent            of `verify`
 --     IsAsked asked given                  this is given, or there was no memory for it
 use Rattle.std.specs.Prelude.{◌≡◌, ◌⊎◌, ℕ, nat_eq, Bool, true, false, ◌&&◌, ◌||◌, if◌then◌else◌, List, [], ◌∷◌, Option, Some, None, Result, Ok, Err, encode_utf8}
 use Rattle.std.specs.Str.{is_utf8}
@@ -70,6 +72,12 @@ abbrev pub sketch_asked : ℕ → ℕ → Result Request ArgumentFault
 sketch_asked cells salt =
     unless (nat_eq cells 0 || are_cells cells) Cells
     (unless (nat_eq salt 0 || is_salt salt) Salt (Ok (ask.Sketch (number_given cells) (number_given salt))))
+
+abbrev pub proof_asked : Bool → Request
+proof_asked keys = if keys then ask.ProveKeys else ask.Prove
+
+abbrev pub verdict_asked : Bool → Bool → Request
+verdict_asked keys absent = if keys then ask.VerifyKeys absent else ask.Verify absent
 
 abbrev pub IsAsked : {A : Type 0} → Result A ArgumentFault → Result A ArgumentFault → Type 0
 IsAsked asked given = (given ≡ Err Memory) ⊎ (given ≡ asked)

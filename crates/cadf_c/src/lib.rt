@@ -5,7 +5,7 @@ ghost use Rattle.std.specs.Prelude.{[], ◌∷◌, false, true, Ok};
 ghost use Rattle.cadf_memory.specs.Memory.{bytes_in};
 ghost use Rattle.cadf_tool.specs.declared.request.Request.TheVariants as ask;
 ghost use Rattle.cadf_c.specs.Statuses.{IsCall};
-ghost use Rattle.cadf_c.specs.Arguments.{is_given, if_given, join_asked, split_asked, ruling_asked, rehearsal_asked, sketch_asked};
+ghost use Rattle.cadf_c.specs.Arguments.{is_given, if_given, join_asked, proof_asked, split_asked, ruling_asked, rehearsal_asked, sketch_asked, verdict_asked};
 
 mod arguments;
 mod output;
@@ -89,28 +89,53 @@ pub extern "C" fn cadf_seal(
     call(alloc, Request::Seal, &[*input], output, length)
 }
 
-/// Hands out the proof file, under the seal of all inputs, for the facts of `facts`, which is counted first.
+/// Returns what is asked of `prove`.
+fn proving(keys: bool) -> Request
+    ensures { result ≡ proof_asked keys }
+{
+    if keys {
+        Request::ProveKeys
+    } else {
+        Request::Prove
+    }
+}
+
+/// Hands out the proof file, under the seal of all inputs, for the facts of `facts`, which is counted first; with `keys` for
+/// its keys, as a list of keys.
 #[unsafe(no_mangle)]
 pub extern "C" fn cadf_prove(
     alloc: Global,
+    keys: bool,
     facts: &CadfBytes<'_>,
     inputs: &[CadfBytes<'_>],
     output: &mut [u8],
     length: &mut usize,
 ) -> i32
-    ensures { IsCall (Ok ask.Prove) (facts.now.bytes.now ∷ bytes_in inputs.now) result output.old output.new length.new }
+    ensures { IsCall (Ok (proof_asked keys)) (facts.now.bytes.now ∷ bytes_in inputs.now) result output.old output.new length.new }
 {
     match after(alloc, facts, inputs) {
-        Ok(all) => call(alloc, Request::Prove, &all, output, length),
+        Ok(all) => call(alloc, proving(keys), &all, output, length),
         Err(_) => refuse(ArgumentFault::Memory, output, length),
     }
 }
 
+/// Returns what is asked of `verify`.
+fn verifying(keys: bool, absent: bool) -> Request
+    ensures { result ≡ verdict_asked keys absent }
+{
+    if keys {
+        Request::VerifyKeys { absent }
+    } else {
+        Request::Verify { absent }
+    }
+}
+
 /// Hands out a line for each fact of `facts`, if the proof shows under the seal that each is in the sealed set; with
-/// `absent`, that none is.
+/// `absent`, that none is. With `keys` the same for its keys, as a list of keys.
 #[unsafe(no_mangle)]
 pub extern "C" fn cadf_verify(
     alloc: Global,
+    keys: bool,
     absent: bool,
     seal: &CadfBytes<'_>,
     facts: &CadfBytes<'_>,
@@ -118,10 +143,10 @@ pub extern "C" fn cadf_verify(
     output: &mut [u8],
     length: &mut usize,
 ) -> i32
-    ensures { IsCall (Ok (ask.Verify absent)) (seal.now.bytes.now ∷ facts.now.bytes.now ∷ proof.now.bytes.now ∷ []) result output.old output.new length.new }
+    ensures { IsCall (Ok (verdict_asked keys absent)) (seal.now.bytes.now ∷ facts.now.bytes.now ∷ proof.now.bytes.now ∷ []) result output.old output.new length.new }
 {
     let inputs = [*seal, *facts, *proof];
-    call(alloc, Request::Verify { absent }, &inputs, output, length)
+    call(alloc, verifying(keys, absent), &inputs, output, length)
 }
 
 /// Hands out the sealed list of the input.

@@ -183,7 +183,7 @@ impl KeyList {
     }
 
     /// Makes the inventory of the keys' digests, under the list's log. `Memory` if an allocation fails.
-    pub fn inventory(&self, alloc: Global) -> Result<Inventory, Memory>
+    pub(crate) fn inventory(&self, alloc: Global) -> Result<Inventory, Memory>
         ensures { IfOk result (λ n. n ≡ key_list_inventory self.now) }
     {
         let log = self.log.copy(alloc)?;

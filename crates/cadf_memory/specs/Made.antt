@@ -6,7 +6,7 @@
 use Rattle.std.specs.Prelude.{◌≡◌, ℕ, Bool, true, false, List, map, Ok}
 use Rattle.cadf_join.specs.Contents.{Text}
 use Rattle.cadf_tool.specs.declared.fault.ToolFault.{ToolFault}
-use Rattle.cadf_tool.specs.declared.fault.ToolFault.TheVariants.{Input, NoLog, OtherLog, NoFacts, TooFewCells, Script, Rehearse, NoValue, Unverified, Ungrown}
+use Rattle.cadf_tool.specs.declared.fault.ToolFault.TheVariants.{Input, NoLog, OtherLog, NoFacts, NoKeys, TooFewCells, Script, Rehearse, NoValue, Unverified, Ungrown}
 use Rattle.cadf_tool.specs.declared.fault.ToolFault.TheVariants.{ReadFault, WriteFault, Memory}
 use Rattle.cadf_tool.specs.declared.request.Request.{Request}
 use Rattle.cadf_tool.specs.Faults.{fault_stage}
@@ -35,6 +35,7 @@ fault_in_memory_of (Input n f) = Input n f
 fault_in_memory_of NoLog = NoLog
 fault_in_memory_of (OtherLog n) = OtherLog n
 fault_in_memory_of (NoFacts n) = NoFacts n
+fault_in_memory_of (NoKeys n) = NoKeys n
 fault_in_memory_of (TooFewCells n cells) = TooFewCells n cells
 fault_in_memory_of (Script line) = Script line
 fault_in_memory_of (Rehearse f) = Rehearse f

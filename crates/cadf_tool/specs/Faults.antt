@@ -9,7 +9,7 @@ use Rattle.cadf_evidence.specs.declared.verify.VerifyFault.TheVariants as verify
 use Rattle.cadf_tool.specs.declared.input.LoadFault.{LoadFault}
 use Rattle.cadf_tool.specs.declared.input.LoadFault.TheVariants.{File, TooLarge, ReadFault, Json, Document, Memory}
 use Rattle.cadf_tool.specs.declared.fault.ToolFault.{ToolFault}
-use Rattle.cadf_tool.specs.declared.fault.ToolFault.TheVariants.{Input, NoLog, OtherLog, NoFacts, TooFewCells, Script, Rehearse, NoValue, Unverified, Ungrown}
+use Rattle.cadf_tool.specs.declared.fault.ToolFault.TheVariants.{Input, NoLog, OtherLog, NoFacts, NoKeys, TooFewCells, Script, Rehearse, NoValue, Unverified, Ungrown}
 use Rattle.cadf_tool.specs.declared.fault.ToolFault.TheVariants.{ReadFault as ReadFailed, WriteFault, Memory as OutOfMemory}
 
 -- `ReadFault` and `Memory` are the engine's own
@@ -21,7 +21,7 @@ of_load n (Json f) = Input n (Json f)
 of_load n (Document f) = Input n (Document f)
 of_load n Memory = OutOfMemory
 
--- why facts are not verified; `Memory` is the engine's own
+-- why facts or keys are not verified; `Memory` is the engine's own
 abbrev pub of_verify : VerifyFault → ToolFault
 of_verify verify.Memory = OutOfMemory
 of_verify fault = Unverified fault
@@ -43,6 +43,7 @@ status_of (Input n f) = 1
 status_of NoLog = 1
 status_of (OtherLog n) = 1
 status_of (NoFacts n) = 1
+status_of (NoKeys n) = 1
 status_of (TooFewCells n cells) = 1
 status_of (Script line) = 1
 status_of (Rehearse f) = 1

@@ -1,6 +1,7 @@
 -- The sealed list of an input, and what is made of a list, which is the first source, and of the replica of the others.
 --     sealed_model_of loaded   the sealed list of an input's replica, or why there is none
 --     sealed_file l, erased_file l   the files of both kinds of lists
+--     if_of_log log h made     what is made, if the first source is of the log of the replica
 --     growth_for sealed h      the proof of growth from what the list has to a replica, or why there is none
 --     left_for erased h        the list and the replica of which it leaves something, or why nothing is left
 --     left_file pair           the file of what is left
@@ -28,17 +29,17 @@ sealed_file l = list_file sealed_header l
 abbrev pub erased_file : ListedModel → Text
 erased_file l = list_file erased_header l
 
--- the result, if the list, which is input 1, is of the log
-abbrev pub if_of_log : {M : Type 0} → ListedModel → ReplicaModel → M → Result M ToolFault
-if_of_log list h made = if is_other h.log (Some list.log) then Err (OtherLog 1) else Ok made
+-- the result, if input 1, which is of this log, is of the replica's
+abbrev pub if_of_log : {M : Type 0} → Text → ReplicaModel → M → Result M ToolFault
+if_of_log log h made = if is_other h.log (Some log) then Err (OtherLog 1) else Ok made
 
 -- THE PROOF OF GROWTH
 abbrev pub growth_for : ListedModel → ReplicaModel → Result ProofModel ToolFault
-growth_for sealed h = if_of_log sealed h (growth_from sealed h)
+growth_for sealed h = if_of_log sealed.log h (growth_from sealed h)
 
 -- WHAT IS LEFT
 abbrev pub left_for : ListedModel → ReplicaModel → Result (ListedModel × ReplicaModel) ToolFault
-left_for erased h = if_of_log erased h (erased, h)
+left_for erased h = if_of_log erased.log h (erased, h)
 
 abbrev pub left_file : ListedModel × ReplicaModel → Text
 left_file pair = written_file (left_of pair.0 pair.1)

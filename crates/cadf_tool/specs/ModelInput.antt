@@ -1,7 +1,7 @@
 -- Sources that are read as the file of a model, whatever bytes they begin with.
 --     RefusesModel k old new f     the source is refused for the fault of its bytes as a file of the kind
 --     model_spec k Is              how the source is read
---     inventory_spec, sketch_spec, seal_spec, proof_spec, sealed_spec, erased_spec    how it is read as a file of each of these kinds
+--     inventory_spec, sketch_spec, seal_spec, proof_spec, sealed_spec, erased_spec, keys_spec    how it is read as a file of each of these kinds
 use Rattle.std.specs.Prelude.{◌≡◌, ◌≢◌, ◌⊎◌, ℕ, List, Bool, true, false, None, Err}
 use Rattle.std.specs.Io.KnownBytes.{Consumes, IsAtEnd}
 use Rattle.cadf_json.specs.Streams.{counted}
@@ -13,6 +13,8 @@ use Rattle.cadf_linefile.specs.declared.file_feed.TheConstants.{FILE_LIMIT}
 use Rattle.cadf_linefile.specs.ModelKind.{ModelKind, file_of, decided_of, verdict_of}
 use Rattle.cadf_listed.specs.ListFile.{ListedModel, IsListed, sealed_header, erased_header}
 use Rattle.cadf_listed.specs.ListVerdict.{list_kind}
+use Rattle.cadf_evidence.specs.KeyList.{KeyListModel, IsKeyList}
+use Rattle.cadf_evidence.specs.KeyVerdict.{keys_kind}
 use Rattle.cadf_evidence.specs.ProofFile.{ProofModel, IsProof}
 use Rattle.cadf_evidence.specs.ProofVerdict.{proof_kind}
 use Rattle.cadf_evidence.specs.SealFile.{SealModel, IsSeal}
@@ -61,3 +63,6 @@ sealed_spec = model_spec (list_kind sealed_header) IsListed
 
 abbrev pub erased_spec : InputSpec ListedModel
 erased_spec = model_spec (list_kind erased_header) IsListed
+
+abbrev pub keys_spec : InputSpec KeyListModel
+keys_spec = model_spec keys_kind IsKeyList

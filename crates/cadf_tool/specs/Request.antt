@@ -25,8 +25,8 @@ use Rattle.cadf_tool.specs.Join.{join_of, of_union, with_union}
 use Rattle.cadf_tool.specs.Listed.{sealed_model_of, sealed_file, growth_for, left_for, left_file}
 use Rattle.cadf_tool.specs.Missing.{part_of_unions}
 use Rattle.cadf_tool.specs.MissingBy.{inventory_model_of, part_by_union}
-use Rattle.cadf_tool.specs.ModelInput.{inventory_spec, sketch_spec, seal_spec, proof_spec, sealed_spec, erased_spec}
-use Rattle.cadf_tool.specs.Prove.{proof_for}
+use Rattle.cadf_tool.specs.ModelInput.{inventory_spec, sketch_spec, seal_spec, proof_spec, sealed_spec, erased_spec, keys_spec}
+use Rattle.cadf_tool.specs.Prove.{keys_proof_for, proof_for}
 use Rattle.cadf_tool.specs.Rehearse.{script_spec, final_sites}
 use Rattle.cadf_tool.specs.Rule.{ruled_of}
 use Rattle.cadf_tool.specs.Run.{InputSpec, Sources, input_spec, with_number, both, inputs_from, IsValueOf, IsRunBy}
@@ -35,17 +35,19 @@ use Rattle.cadf_tool.specs.Shown.{shown_text, checked_text}
 use Rattle.cadf_tool.specs.Sites.{sites_text}
 use Rattle.cadf_tool.specs.Sketch.{sketch_model_of, IsPartOfUnionBySketch}
 use Rattle.cadf_tool.specs.Told.{replica_model_of}
-use Rattle.cadf_tool.specs.Verify.{verdict_of}
+use Rattle.cadf_tool.specs.Verify.{key_verdict_of, verdict_of}
 use Rattle.cadf_tool.specs.WrittenFile.{written_file}
 
--- what a delta or a proof is against is one source at least, and so is a list; a seal, facts and a proof are three; two seals and
--- a proof are three, and with an erased list four; a script is one
+-- what a delta or a proof is against is one source at least, and so is a list; a seal, facts or keys, and a proof are three; two
+-- seals and a proof are three, and with an erased list four; a script is one
 abbrev pub accepts : Request → ℕ → Bool
 accepts (ask.Missing from) count = nat_lt from count
 accepts ask.MissingBy count = nat_le 1 count
 accepts ask.MissingBySketch count = nat_le 1 count
 accepts ask.Prove count = nat_le 1 count
+accepts ask.ProveKeys count = nat_le 1 count
 accepts (ask.Verify absent) count = nat_eq count 3
+accepts (ask.VerifyKeys absent) count = nat_eq count 3
 accepts ask.Growth count = nat_le 1 count
 accepts (ask.Grew erased) count = nat_eq count (if erased then 4 else 3)
 accepts ask.Omit count = nat_le 1 count
@@ -139,6 +141,17 @@ with_first {T} {M} reader work tell = record {
   is_whole = false;
 }
 
+-- what a proof says, under a seal, of what the second source is, which is read so
+abbrev pub by_seal : {T : Type 0} → InputSpec T → (SealModel × (T × ProofModel) → Result Text ToolFault) → Task
+by_seal {T} reader work = record {
+  Read = SealModel × (T × ProofModel);
+  sources = three seal_spec reader proof_spec;
+  Made = Text;
+  work = IsValueOf work;
+  tell = λ text. text;
+  is_whole = true;
+}
+
 abbrev pub task : Request → Task
 task (ask.Join log) = of_all (join_of log) written_file
 task (ask.Split unit log) = of_all (join_of log) (split_text unit)
@@ -156,14 +169,9 @@ task (ask.Sketch cells salt) = of_all (of_union (sketch_model_of cells salt)) sk
 task ask.MissingBySketch = against_last sketch_spec IsPartOfUnionBySketch
 task ask.Seal = of_all (of_union seal_model_of) seal_file
 task ask.Prove = with_first input_spec proof_for proof_file
-task (ask.Verify absent) = record {
-  Read = SealModel × (Loaded × ProofModel);
-  sources = three seal_spec input_spec proof_spec;
-  Made = Text;
-  work = IsValueOf (verdict_of absent);
-  tell = λ text. text;
-  is_whole = true;
-}
+task ask.ProveKeys = with_first keys_spec keys_proof_for proof_file
+task (ask.Verify absent) = by_seal input_spec (verdict_of absent)
+task (ask.VerifyKeys absent) = by_seal keys_spec (key_verdict_of absent)
 task ask.Sealed = of_all (of_union sealed_model_of) sealed_file
 task ask.Growth = with_first sealed_spec growth_for proof_file
 task (ask.Grew erased) = record {

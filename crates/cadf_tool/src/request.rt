@@ -21,6 +21,7 @@ use crate::sketch::SketchEngine;
 use crate::split::write_split_file;
 use crate::verify::write_verdict;
 use cadf_event::Name;
+use cadf_evidence::KeyList;
 use cadf_json::{Sink, Source};
 use cadf_listed::{Erased, Listed, Sealed};
 use cadf_set::Inventory;
@@ -60,9 +61,15 @@ pub enum Request {
     Seal,
     /// The proof file for what the first input contributes, under the seal of the union of the others.
     Prove,
+    /// The proof file for the keys of the first source, a list of keys, under the seal of the union of the others.
+    ProveKeys,
     /// A line for each fact of the second of three sources, if the third, a proof file, shows under the first, a seal
     /// file, that each is in the sealed set; with `absent`, that none is.
     Verify {
+        absent: bool,
+    },
+    /// The same for each key of the second source, a list of keys: that a fact of the sealed set has it, or none.
+    VerifyKeys {
         absent: bool,
     },
     /// The sealed list of the union.
@@ -103,9 +110,10 @@ impl Request {
         match self {
             Request::Missing { from } => *from < count,
             Request::MissingBy | Request::MissingBySketch => count >= 1,
-            Request::Prove | Request::Growth | Request::Omit => count >= 1,
+            Request::Prove | Request::ProveKeys => count >= 1,
+            Request::Growth | Request::Omit => count >= 1,
             Request::Grew { erased } => count == if *erased { 4 } else { 3 },
-            Request::Verify { .. } => count == 3,
+            Request::Verify { .. } | Request::VerifyKeys { .. } => count == 3,
             Request::Rehearse { .. } => count == 1,
             _ => true,
         }
@@ -138,7 +146,13 @@ pub fn run<R: Source, W: Sink>(
         Request::MissingBySketch => write_missing_by::<Sketch, R, W>(alloc, sources, output),
         Request::Seal => run_union(alloc, &SealEngine, sources, output),
         Request::Prove => write_with_union::<Loaded, R, W>(alloc, sources, output),
-        Request::Verify { absent } => write_verdict(alloc, *absent, sources, output),
+        Request::ProveKeys => write_with_union::<KeyList, R, W>(alloc, sources, output),
+        Request::Verify { absent } => {
+            write_verdict::<Loaded, R, W>(alloc, *absent, sources, output)
+        }
+        Request::VerifyKeys { absent } => {
+            write_verdict::<KeyList, R, W>(alloc, *absent, sources, output)
+        }
         Request::Sealed => run_union(alloc, &SealedEngine, sources, output),
         Request::Growth => write_with_union::<Listed<Sealed>, R, W>(alloc, sources, output),
         Request::Grew { erased } => write_growth(alloc, *erased, sources, output),

@@ -57,8 +57,8 @@ synopsis =
     ∷ (codes "sketch", (codes "cells", optional) ∷ (codes "salt", optional) ∷ (codes "FILE", several) ∷ [])
     ∷ (codes "missing-by-sketch", (codes "FROM", once) ∷ (codes "SKETCH", once) ∷ (codes "from", repeated) ∷ [])
     ∷ (codes "seal", (codes "FILE", several) ∷ [])
-    ∷ (codes "prove", (codes "FACTS", once) ∷ (codes "FILE", several) ∷ [])
-    ∷ (codes "verify", (codes "absent", flag) ∷ (codes "SEAL", once) ∷ (codes "FACTS", once) ∷ (codes "PROOF", once) ∷ [])
+    ∷ (codes "prove", (codes "keys", flag) ∷ (codes "FACTS", once) ∷ (codes "FILE", several) ∷ [])
+    ∷ (codes "verify", (codes "keys", flag) ∷ (codes "absent", flag) ∷ (codes "SEAL", once) ∷ (codes "FACTS", once) ∷ (codes "PROOF", once) ∷ [])
     ∷ (codes "sealed", (codes "FILE", several) ∷ [])
     ∷ (codes "growth", (codes "SEALED", once) ∷ (codes "FILE", several) ∷ [])
     ∷ (codes "grew", (codes "erased", optional) ∷ (codes "OLD", once) ∷ (codes "NEW", once) ∷ (codes "PROOF", once) ∷ [])
@@ -135,9 +135,10 @@ IsAsked name rows (Sketch cells salt files) =
 IsAsked name rows (MissingBySketch from sketch) =
     (name ≡ codes "missing-by-sketch") × AreFirstAndMore "FROM" "from" rows from.items × IsValue "SKETCH" rows sketch
 IsAsked name rows (Seal files) = (name ≡ codes "seal") × AreFiles rows files.items
-IsAsked name rows (Prove facts files) = (name ≡ codes "prove") × IsValue "FACTS" rows facts × AreFiles rows files.items
-IsAsked name rows (Verify absent seal facts proof) =
-    (name ≡ codes "verify") × IsFlag (codes "absent") rows absent × IsValue "SEAL" rows seal × IsValue "FACTS" rows facts
+IsAsked name rows (Prove keys facts files) =
+    (name ≡ codes "prove") × IsFlag (codes "keys") rows keys × IsValue "FACTS" rows facts × AreFiles rows files.items
+IsAsked name rows (Verify keys absent seal facts proof) =
+    (name ≡ codes "verify") × IsFlag (codes "keys") rows keys × IsFlag (codes "absent") rows absent × IsValue "SEAL" rows seal × IsValue "FACTS" rows facts
     × IsValue "PROOF" rows proof
 IsAsked name rows (Sealed files) = (name ≡ codes "sealed") × AreFiles rows files.items
 IsAsked name rows (Growth sealed files) = (name ≡ codes "growth") × IsValue "SEALED" rows sealed × AreFiles rows files.items

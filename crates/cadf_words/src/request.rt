@@ -49,10 +49,12 @@ pub enum Request<'a> {
         files: Vec<&'a str>,
     },
     Prove {
+        keys: bool,
         facts: &'a str,
         files: Vec<&'a str>,
     },
     Verify {
+        keys: bool,
         absent: bool,
         seal: &'a str,
         facts: &'a str,
@@ -180,10 +182,12 @@ fn sealing_of<'a>(name: &str, matches: &ArgMatches<'a>, files: Vec<&'a str>) -> 
     match name {
         "seal" => Request::Seal { files },
         "prove" => Request::Prove {
+            keys: flag(matches, "keys"),
             facts: word(matches, "FACTS"),
             files,
         },
         "verify" => Request::Verify {
+            keys: flag(matches, "keys"),
             absent: flag(matches, "absent"),
             seal: word(matches, "SEAL"),
             facts: word(matches, "FACTS"),

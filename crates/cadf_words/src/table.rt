@@ -49,6 +49,12 @@ const FACTS: Word = (
     "What is asked for: a log, an event or a replica file",
 );
 
+const KEYS: Word = (
+    "keys",
+    Kind::Flag,
+    "Take FACTS as a list of keys, and ask whether the files have facts of them",
+);
+
 /// Each command: its name, its help, and its words in their order.
 const COMMANDS: &[(&str, &str, &[Word])] = &[
     (
@@ -131,12 +137,13 @@ const COMMANDS: &[(&str, &str, &[Word])] = &[
     (
         "prove",
         "Writes a proof of which FACTS are in the files, and which are not",
-        &[FACTS, INPUTS],
+        &[KEYS, FACTS, INPUTS],
     ),
     (
         "verify",
         "Checks FACTS against SEAL by PROOF, without the files",
         &[
+            KEYS,
             (
                 "absent",
                 Kind::Flag,

@@ -76,9 +76,14 @@ fn request(alloc: Global, name: &str, words: Words<'_>) -> Option<(Request, usiz
         "missing_by_sketch" => (Request::MissingBySketch, 4),
         "seal" => (Request::Seal, 4),
         "prove" => (Request::Prove, 4),
+        "prove_keys" => (Request::ProveKeys, 4),
         "verify" => {
             let absent = words.text(4) == "absent";
             (Request::Verify { absent }, 5)
+        }
+        "verify_keys" => {
+            let absent = words.text(4) == "absent";
+            (Request::VerifyKeys { absent }, 5)
         }
         "sealed" => (Request::Sealed, 4),
         "growth" => (Request::Growth, 4),

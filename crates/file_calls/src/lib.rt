@@ -4,6 +4,7 @@
 mod faults;
 mod feeds;
 mod inventories;
+mod keys;
 mod reads;
 mod replicas;
 mod seals;
@@ -38,6 +39,9 @@ pub fn answered(alloc: Global, call: &Call) -> Result<String, Memory> {
         "write_proof" => seals::write_proof_of(alloc, call),
         "read_proof" => seals::read_proof_of(alloc, call),
         "verified" => seals::verified_of(alloc, call),
+        "read_keys" => keys::read(alloc, call),
+        "keys_proof" => keys::proof(alloc, call),
+        "verified_keys" => keys::verified(alloc, call),
         "write_log" | "write_conflicts" => texts::write(alloc, call),
         "read_sketch" => sketches::read(alloc, call),
         "write_sketch" => sketches::write(alloc, call),

@@ -28,7 +28,7 @@ fn shown(alloc: Global, seal: &Seal) -> Result<String, Memory> {
 }
 
 /// Reads the bytes as a seal file.
-fn read_in(alloc: Global, reading: Reading, bytes: &[u8]) -> Result<Seal, FileFault> {
+pub(crate) fn read_in(alloc: Global, reading: Reading, bytes: &[u8]) -> Result<Seal, FileFault> {
     read_model(alloc, &mut reading.source(bytes), reading.limit)
 }
 
@@ -131,7 +131,7 @@ fn push_keys(alloc: Global, line: &mut String, proof: &Proof) -> Result<(), Memo
 }
 
 /// Answers `ok` with the proof's log and its parts.
-fn proof_shown(alloc: Global, proof: &Proof) -> Result<String, Memory> {
+pub(crate) fn proof_shown(alloc: Global, proof: &Proof) -> Result<String, Memory> {
     let mut line = answer(alloc, "ok", &[proof.log().as_str()])?;
     push_parts(alloc, &mut line, proof.facts())?;
     push_keys(alloc, &mut line, proof)?;
@@ -158,7 +158,7 @@ pub(crate) fn write_proof_of(alloc: Global, call: &Call) -> Result<String, Memor
 }
 
 /// Reads the bytes as a proof file.
-fn proof_in(alloc: Global, reading: Reading, bytes: &[u8]) -> Result<Proof, FileFault> {
+pub(crate) fn proof_in(alloc: Global, reading: Reading, bytes: &[u8]) -> Result<Proof, FileFault> {
     read_model(alloc, &mut reading.source(bytes), reading.limit)
 }
 
@@ -189,7 +189,7 @@ pub(crate) fn verified_of(alloc: Global, call: &Call) -> Result<String, Memory> 
 }
 
 /// Answers `ok` with the lines, written `piece` bytes at a time.
-fn told(alloc: Global, piece: usize, lines: &FactLines) -> Result<String, Memory> {
+pub(crate) fn told(alloc: Global, piece: usize, lines: &FactLines) -> Result<String, Memory> {
     let mut sink = MemorySink::new(alloc, piece, "never", 0);
     match lines.write(&mut sink) {
         Ok(()) => written(alloc, Ok(()), &sink),

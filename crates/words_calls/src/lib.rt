@@ -93,13 +93,22 @@ fn asked(alloc: Global, request: &Request<'_>) -> Result<String, Memory> {
             &[*sketch],
         ),
         Request::Seal { files } => of_files(alloc, &["Seal"], files),
-        Request::Prove { facts, files } => of_files(alloc, &["Prove", facts], files),
+        Request::Prove { keys, facts, files } => of_files(
+            alloc,
+            &["Prove", flag(*keys), facts],
+            files,
+        ),
         Request::Verify {
+            keys,
             absent,
             seal,
             facts,
             proof,
-        } => of_files(alloc, &["Verify", flag(*absent)], &[*seal, *facts, *proof]),
+        } => of_files(
+            alloc,
+            &["Verify", flag(*keys), flag(*absent)],
+            &[*seal, *facts, *proof],
+        ),
         Request::Sealed { files } => of_files(alloc, &["Sealed"], files),
         Request::Growth { sealed, files } => of_files(alloc, &["Growth", sealed], files),
         Request::Grew {

@@ -19,6 +19,12 @@ returns-in-MissingBySketch-clause-run g c = as_asked g.R.Source _ _ g.W.Sink _ _
 pub returns-in-Prove-clause-run : goal.returns-in-Prove-clause-run
 returns-in-Prove-clause-run g c = as_asked g.R.Source _ _ g.W.Sink _ _ _ c.in-Prove.is c.write_with_union.ensures
 
+pub returns-in-ProveKeys-clause-run : goal.returns-in-ProveKeys-clause-run
+returns-in-ProveKeys-clause-run g c = as_asked g.R.Source _ _ g.W.Sink _ _ _ c.in-ProveKeys.is c.write_with_union-in-ProveKeys.ensures
+
+pub returns-in-VerifyKeys-clause-run : goal.returns-in-VerifyKeys-clause-run
+returns-in-VerifyKeys-clause-run g c = as_asked g.R.Source _ _ g.W.Sink _ _ _ c.in-VerifyKeys.is c.write_verdict-in-VerifyKeys.ensures.verdict
+
 pub returns-in-Verify-clause-run : goal.returns-in-Verify-clause-run
 returns-in-Verify-clause-run g c = as_asked g.R.Source _ _ g.W.Sink _ _ _ c.in-Verify.is c.write_verdict.ensures.verdict
 
