@@ -1,4 +1,5 @@
 """Inputs for the command: small ones of each kind, those of the worked calls, damaged ones, and one of some 60 events."""
+import hashlib
 import json
 
 from tests.formats import erased_of, in_format, of_lines
@@ -12,7 +13,7 @@ MADE = {"log.cadf": "join log.json", "other.cadf": "join other.json", "both.cadf
         "few.sketch": "sketch --cells 3 --salt 1 log.json", "one.sketch": "sketch --cells 12 one.cadf",
         "log.seal": "seal log.json", "both.seal": "seal both.cadf", "one.seal": "seal one.cadf", "many.seal": "seal many.cadf",
         "both.proof": "prove both.cadf both.cadf", "event.proof": "prove event.json both.cadf", "chains.proof": "prove chains.cadf one.cadf",
-        "many.proof": "prove many.cadf many.cadf",
+        "many.proof": "prove many.cadf many.cadf", "asked.proof": "prove --keys asked.keys both.cadf",
         "log.sealed": "sealed log.json", "both.sealed": "sealed both.cadf", "one.sealed": "sealed one.cadf",
         "both.growth": "growth log.sealed both.cadf", "log.growth": "growth both.sealed log.cadf",
         "many.growth": "growth log.sealed many.cadf"}
@@ -89,11 +90,19 @@ def wrong_nodes():
     return {"unended.cadf": of_lines(2, *names[:2]), "siblings.cadf": of_lines(2, *names)}
 
 
+def keys():
+    """A key file whose keys are there."""
+    lines = b'CADF-KEYS 1\nL "g"\n["E","e1"]\n["P","name"]\n'
+    return lines + b"Z %s\n" % hashlib.sha256(lines).hexdigest().encode()
+
+
 def prepare(binary, folder):
     """Puts the inputs into the folder, with what the command makes of them."""
     for name, content in documents().items():
         put(folder, name, json.dumps(content).encode())
     put(folder, "cut.json", b'{"id":"g","events":[{}')
+    put(folder, "asked.keys", keys())
+    put(folder, "cut.keys", keys()[:-9])
     put(folder, "plan.script", script().encode())
     put(folder, "bad.script", script().encode() + b"hello")
     for name, content in wrong_nodes().items():
