@@ -1,5 +1,5 @@
 -- The verdict on the file of a list of keys accepts these files, and no others.
-use Rattle.cadf_evidence.proofs.Common.{◌≡◌, ◌∙◌, ℕ, List, [], ◌∷◌, ◌++◌, map, length, Bool, true, false, cond, Option, Some, None, refl, sym, ap, subst, arith, append_assoc, append-nil, option_map, is_some, unwrap_or, AllByRecursion, Text, Texts, IsNameText, is_name_text, unbroken_quoted, AreAfter, and_true, are_unbroken, Ends, Follows, IsModelKind, Plain, accepts-models, lines_of, models-tell, name_is, unbroken_digest, good_log, log_line, with_digest_line, AcceptsModels, begins_digest, true≢false, Shape, map_more, suc, ◌-◌, slice_get, last_or, cause_of_digest, is_above_last_digest, last_below, rising_none, rising_push, line, Order, AreRisingKeys, IsKey, IsKeyList, KeyListModel, KeysFileIsInjective, keys_body, keys_header, AcceptsKeyLists, key_in, key_line_in, keys_kind, keys_model_in, IsPutKey, keys_of_lines, text_cmp, IsStrictlySortedBy}
+use Rattle.cadf_evidence.proofs.Common.{◌≡◌, ◌∙◌, ℕ, List, [], ◌∷◌, ◌++◌, map, length, Bool, true, false, cond, Option, Some, None, refl, sym, ap, subst, arith, append_assoc, append-nil, option_map, is_some, AllByRecursion, Text, Texts, IsNameText, is_name_text, unbroken_quoted, AreAfter, and_true, are_unbroken, Ends, Follows, IsModelKind, Plain, accepts-models, lines_of, models-tell, name_is, unbroken_digest, good_log, log_line, with_digest_line, begins_digest, true≢false, Shape, map_more, suc, ◌-◌, slice_get, last_or, cause_of_digest, is_above_last_digest, last_below, rising_none, rising_push, line, Order, AreRisingKeys, IsKey, IsKeyList, KeyListModel, KeysFileIsInjective, keys_body, keys_header, AcceptsKeyLists, key_in, key_line_in, keys_kind, keys_model_in, IsPutKey, keys_of_lines, text_cmp, IsStrictlySortedBy}
 use Rattle.cadf_linefile.specs.Verdict as frame
 unfoldable use Rattle.cadf_evidence.specs.KeyVerdict.{key_cause}
 use Rattle.cadf_evidence.proofs.KeyLemmas.{key-again, key-only, plain_key, unbroken_key}
@@ -83,10 +83,6 @@ plain_lines (q ∷ qs) = ap (λ ls. line q ∷ ls) (plain_lines qs)
 plain_more : (qs : List Texts) (q : Texts) → map plain_of (qs ++ q ∷ []) ≡ map plain_of qs ++ plain_of q ∷ []
 plain_more [] q = refl
 plain_more (x ∷ qs) q = ap (λ xs. plain_of x ∷ xs) (plain_more qs q)
-
-line_append : (qs rs : List Texts) → map line (qs ++ rs) ≡ map line qs ++ map line rs
-line_append [] rs = refl
-line_append (q ∷ qs) rs = ap (λ ls. line q ∷ ls) (line_append qs rs)
 
 abbrev After : List Plain → List Plain → Type 0
 After before xs = AreAfter (Follows keys_kind) (Ends keys_kind) before xs

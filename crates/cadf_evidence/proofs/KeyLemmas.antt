@@ -1,5 +1,5 @@
 -- A key and its line.
-use Rattle.cadf_evidence.proofs.Common.{◌≡◌, ◌∙◌, ℕ, List, [], ◌∷◌, ◌++◌, length, take, drop, Bool, true, false, cond, ◌||◌, ◌⊎◌, Option, Some, None, refl, sym, ap, subst, inl, inr, arith, common_steps, bytes_eq, bytes_eq-Decides, option_map, take-append-drop, take-append_seam, drop-append_seam, Text, Texts, is_text, atom_digest, is_name_text, is_unbroken, unbroken_quoted, chosen, begins_digest, true≢false, ◌-◌, length-append, quoted, name_of, name-again, name-only, both_unbroken, key_of, key_digest, line, geolocation_letter, metric_letter, property_letter, resource_letter, is_value_letter, line_in_pieces, line_spelled, IsKey, key_in, key_with, letter_in, opens, IsUtf8, name_not_text}
+use Rattle.cadf_evidence.proofs.Common.{◌≡◌, ◌∙◌, ℕ, List, [], ◌∷◌, ◌++◌, length, take, drop, Bool, true, false, cond, ◌||◌, Option, Some, None, refl, sym, ap, subst, arith, common_steps, bytes_eq, bytes_eq-Decides, take-append-drop, take-append_seam, drop-append_seam, Text, Texts, is_text, is_name_text, is_unbroken, unbroken_quoted, chosen, begins_digest, ◌-◌, length-append, quoted, name_of, name-again, name-only, both_unbroken, line, geolocation_letter, metric_letter, property_letter, resource_letter, is_value_letter, line_in_pieces, line_spelled, IsKey, key_in, key_with, letter_in, opens, IsUtf8, name_not_text}
 unfoldable use Rattle.json.specs.Print.{escape_byte}
 unfoldable use Rattle.cadf_evidence.specs.KeyVerdict.{name_before_end}
 
@@ -29,9 +29,6 @@ letter l h =
 
 end_at : (xs : List ℕ) → length (xs ++ 93 ∷ []) - 1 ≡ length xs
 end_at xs = omega (arith, length-append xs (93 ∷ []))
-
-name_at_end : ℕ → List ℕ → Option Text
-name_at_end n t = cond (bytes_eq (drop n t) (93 ∷ [])) (name_of (take n t)) None
 
 name_again : (k : Text) → is_name_text k ≡ true → name_before_end (quoted k ++ 93 ∷ []) ≡ Some k
 unfolding name_before_end
@@ -123,18 +120,3 @@ unbroken_key (l ∷ k ∷ []) h =
     ap is_unbroken (sym (line_in_pieces (l ∷ k ∷ [])))
     ∙ both_unbroken (91 ∷ quoted l) ((44 ∷ quoted k) ++ 93 ∷ []) (unbroken_quoted l) (both_unbroken (44 ∷ quoted k) (93 ∷ []) (unbroken_quoted k) refl)
 unbroken_key (l ∷ k ∷ m ∷ more) h = absurd h
-
--- ---- a key has the digest of its line
-
-pub key_of_key : (q : Texts) → IsKey q → key_of q ≡ q
-key_of_key [] h = absurd h
-key_of_key (l ∷ []) h = absurd h
-key_of_key (l ∷ k ∷ []) h = by (is_text l (85 ∷ [])) refl
-  where
-    by : (b : Bool) → is_text l (85 ∷ []) ≡ b → cond b (k ∷ []) (l ∷ k ∷ []) ≡ l ∷ k ∷ []
-    by false is = refl
-    by true is = let same : l ≡ 85 ∷ [] = (bytes_eq-Decides l (85 ∷ [])).0 is in absurd (true≢false (sym h.0 ∙ ap is_value_letter same))
-key_of_key (l ∷ k ∷ m ∷ more) h = absurd h
-
-pub digest_of_key : (q : Texts) → IsKey q → key_digest q ≡ atom_digest q
-digest_of_key q h = ap atom_digest (key_of_key q h)

@@ -1,4 +1,4 @@
-use Rattle.cadf_evidence.proofs.Common.{◌≡◌, ◌∙◌, Ok, Some, None, subst, ap, arith, common_steps, map, length, nat_eq, rising, Text, text_cmp, atom_digest, told, refusal, verdict_if, VerifyFaultIs, Key}
+use Rattle.cadf_evidence.proofs.Common.{◌≡◌, ◌∙◌, Ok, Some, None, subst, ap, arith, common_steps, map, length, nat_eq, rising, text_cmp, atom_digest, told, refusal, verdict_if, VerifyFaultIs, Key}
 use Rattle.cadf_join.specs.Sets as set
 use Rattle.cadf_evidence.proofs.AskedDigests.{refused, all_told, keys_around, keys_within}
 use Rattle.cadf_evidence.proofs.verify.verified_keys.Goals as goal
