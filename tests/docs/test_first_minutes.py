@@ -64,7 +64,7 @@ def test_picture():
 
 FAKE = '#!/bin/sh\n[ "$*" = --version ] && echo "cadf 9.9" && exit\necho "fake: $*" >&2\nexit 3\n'
 KIT = "The kit is here: build/command makes the proved one, in half an hour on 4 idle processors."
-OTHER = "The command that runs is crates/cadf/out/cadf, cadf 9.9, of other sources. nothing says what crates/cadf/out/cadf was built of."
+OTHER = "The command that runs is crates/cadf/out/cadf, cadf 9.9, of other sources: nothing says what crates/cadf/out/cadf was built of."
 
 
 @pytest.mark.parametrize("there, wanted", [
