@@ -175,15 +175,18 @@ class Ended(NamedTuple):
     said: str
     is_many: bool  # a step of pytest
 
+    def is_left_out(self):
+        """Whether the step says that it has tried nothing."""
+        return re.fullmatch("skipped: .*\n", self.said) is not None
+
     def line(self):
-        done = "skipped" if re.fullmatch("skipped: .*\n", self.said) else "passed"
-        verdict = {0: done, -signal.SIGTERM: "ended by SIGTERM"}.get(self.status, "FAILED: status %d" % self.status)
+        verdict = {0: "skipped" if self.is_left_out() else "passed", -signal.SIGTERM: "ended by SIGTERM"}.get(self.status, "FAILED: status %d" % self.status)
         return "%-12s %7.1f s %8.1f s  %s" % (self.name, self.seconds, self.processors, verdict)
 
     def counts(self):
         """How many tests passed and how many failed."""
         if not self.is_many:
-            return (0, 1) if self.status else (1, 0)
+            return (0, 1) if self.status else (int(not self.is_left_out()), 0)
         found = COUNTED.findall(self.said.rstrip("\n").rsplit("\n", 1)[-1])
         passed = sum(int(number) for number, what in found if what == "passed")
         failed = sum(int(number) for number, what in found if what != "passed")

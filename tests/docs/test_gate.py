@@ -135,8 +135,9 @@ def test_skips_of_the_gate(tmp_path, capsys, said, allowed, may_skip, wanted):
     gate = STEPS["Gate"](allowed)
     gate.run_all({"first": str(tmp_path / "step")}, False)
     assert gate.table(0, may_skip) == wanted
-    line = next(line for line in capsys.readouterr().out.splitlines() if line.startswith("allowed, and not skipped: "))
-    assert " zsh" in line and (" strace" in line) == ("strace isn't" not in said)
+    *_, names, counts = capsys.readouterr().out.splitlines()
+    assert names.startswith("allowed, and not skipped: ") and " zsh" in names and (" strace" in names) == ("strace isn't" not in said)
+    assert counts == ("0 passed, 0 failed, 1 skipped" if said.startswith("skipped: ") else "1 passed, 0 failed, 3 skipped")
 
 
 SKIPPING = "import pytest\n\n\n%s\ndef test_something():\n    pytest.skip(%r)\n"
