@@ -57,6 +57,14 @@ class Item(NamedTuple):
     def line(self):
         return b"%s %s %d\n" % (self.part.encode(), self.kind.encode(), self.length)
 
+    def fits(self, limit):
+        """Whether a message of so many bytes may have it."""
+        return len(self.line()) + self.length + len("\n") <= limit
+
+    def too_large(self, limit):
+        """What is said of one that no such message may have."""
+        return "%s: its %s is too large for a message of %d bytes: raise --limit at both ends, or have smaller windows" % (self.part, self.kind, limit)
+
     def blocks(self):
         """Yields the bytes."""
         at, end = self.begin, self.begin + self.length
@@ -124,11 +132,9 @@ class Store:
 def batches(items, limit):
     """The items in lists that are messages of at most so many bytes, and of about as many as one should have."""
     def size_of(item):
-        size = len(item.line()) + item.length
-        if size + len("\n") > limit:
-            raise Fault("%s: its %s is too large for a message of %d bytes: raise --limit at both ends, or have smaller windows"
-                        % (item.part, item.kind, limit), REFUSED)
-        return size
+        if not item.fits(limit):
+            raise Fault(item.too_large(limit), REFUSED)
+        return len(item.line()) + item.length
 
     return grouped(items, size_of, min(limit, ENOUGH) - len("\n"), MOST_ITEMS)
 

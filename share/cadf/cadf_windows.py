@@ -240,6 +240,13 @@ def sketch(store, part, inputs, cells):
     return store.item(part, "inventory")
 
 
+def fitting(item, limit):
+    """The item, if a message of so many bytes may have it. LeftOut: its window is too large for an exchange, which says nothing of others."""
+    if not item.fits(limit):
+        raise LeftOut(item.too_large(limit), MEMORY)
+    return item
+
+
 def is_small(inputs, cells):
     """Whether files have so few lines that their inventory is no longer than a sketch, which it may be all the same.
 

@@ -2,11 +2,13 @@
 
 A test has the tool take the files of whoever runs it for those of another user: it is told another number for its own.
 """
+import collections
 import contextlib
 import datetime
 import functools
 import hashlib
 import io
+import itertools
 import json
 import os
 import sys
@@ -343,6 +345,25 @@ def test_what_has_rulings_is_taken_alone(place):
     assert groups == [["a.json", "b.cadf", "c.json", "d.json"], ["a.json"], ["b.cadf"], ["c.json", "d.json"]]
 
 
+@pytest.mark.parametrize("is_failing, wanted", [
+    (lambda names: "b" in names, {"a": 1, "b": 1 + 2, "c": 0.25, "d": 0.75}),  # the group and a half failed for b, which then failed alone
+    (lambda names: {"a", "c"} <= names, {"a": 0.5 + 1 / 6, "b": 0.5 + 1 / 6, "c": 0.25 + 1 / 6, "d": 0.75 + 3 / 6})])
+def test_a_group_that_fails_costs_who_is_at_fault(place, is_failing, wanted):
+    """Its seconds are those of the file at fault, or if none fails alone, of all by their bytes."""
+    place.run_once()
+    program = place.program()
+    run = program.Run(program.Spool(place.spool), os.path.join(place.place, "site"), "g", program.Budget(0, 2 ** 30, 60, 2 ** 32), "day", [], NONE)
+    sizes, charged, begun = {"a": 1, "b": 1, "c": 1, "d": 3}, collections.Counter(), itertools.count(0, 0.5)
+    program.seconds_spent = lambda: next(begun) * 2
+    run.sender, run.sizes = lambda name, made: name, lambda name, made: collections.Counter({name: sizes[name]})
+    run.taken = lambda site, names, counts=None: program.Ended(4 if is_failing(set(names)) else 0, b"", "", False)
+    run.charge = lambda user, kind, seconds: charged.update({user: seconds})
+    run.spool.move, run.leave, run.facts, run.fault_alone = lambda *words: None, lambda *words: None, collections.Counter(), lambda done: program.Waits("no")
+    run.take({name: [name] for name in "abcd"})
+    os.close(run.spool.lock)
+    assert {name: round(seconds, 6) for name, seconds in charged.items()} == {name: round(seconds, 6) for name, seconds in wanted.items()}
+
+
 def test_facts_that_wait_cost_their_sender_time(place):
     """What is joined to facts that wait is read each time."""
     place.run_once()
@@ -551,6 +572,12 @@ def test_files_that_are_claimed_wait_if_their_sender_has_cost_too_much(shared):
     (test_the_sender_of_a_copy_is_known, ["else self.users.get(name, owner)", "else owner"])])
 def test_a_wrong_version_is_caught(cadf, tmp_path, check, texts):
     is_caught(tmp_path, texts, check, functools.partial(Place, cadf, tmp_path))
+
+
+@pytest.mark.parametrize("texts", [["            self.charge_seconds(self.failed, sizes)\n            self.failed = 0\n", ""], ["self.failed += spent", "pass"]])
+def test_a_wrong_price_of_a_group_is_caught(cadf, tmp_path, texts):
+    is_caught(tmp_path, texts, test_a_group_that_fails_costs_who_is_at_fault, functools.partial(Place, cadf, tmp_path),
+              lambda names: "b" in names, {"a": 1, "b": 1 + 2, "c": 0.25, "d": 0.75})
 
 
 @pytest.mark.parametrize("check, texts", [

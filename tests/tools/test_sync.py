@@ -57,6 +57,12 @@ def facts(*keys, log="g"):
     return document({"id": log, "events": events, "name": "x"})[1]
 
 
+def many(*keys):
+    """The bodies of the same events, of which many are made fast."""
+    body = next(atom[2] for atom in facts(0) if atom[0] == "E" and len(atom) == 3)
+    return {("E", "e%d" % key, body.replace("2024-03-01", "2024-03-%02d" % (1 + key % 28))) for key in keys}
+
+
 class Sites:
     """A folder with sites, and the tool over them."""
 
@@ -498,7 +504,7 @@ def test_a_line_that_is_none_of_its_kind(sites, kind):
     """It ends the exchange as it comes, at either end, and not when all that was announced has come."""
     sites.put("here.cadf", facts(1))
     kind, data, line = OF_ITS_KIND[kind]
-    answer = sites.lied_to(FIRST + LIST + announced(b"answer", kind, data), mode="mute", timeout=60)
+    answer = sites.lied_to(FIRST + LIST + announced(b"answer", kind, data), mode="mute", timeout=20)
     wanted = "the %s of all: line %d: shape: no line of such a file is so long, or so short" % (kind.decode(), line)
     assert (answer.status, said(answer)) == (1, "cadf-sync: h:there.cadf: %s\n" % wanted)
     answer = sites.served(hello() + announced(b"ask", kind, data))
@@ -507,8 +513,17 @@ def test_a_line_that_is_none_of_its_kind(sites, kind):
 
 def test_facts_that_are_too_long_are_not_waited_for(sites):
     sites.put("here.cadf", facts(1))
-    answer = sites.lied_to(FIRST + LIST + announced(b"answer", b"facts", b""), mode="mute", timeout=60)
+    answer = sites.lied_to(FIRST + LIST + announced(b"answer", b"facts", b""), mode="mute", timeout=20)
     assert answer.status == 1 and said(answer).endswith("all: facts of 999999000 bytes, and --facts is 67108864\n"), answer
+
+
+@pytest.mark.parametrize("kind, right, wrong", [
+    ("an inventory's line without an end", "            judge(block)\n", ""), ("short cells", "and self.length not in self.lengths:", "and False:"),
+    ("a log's name without an end", "else LONGEST_BEFORE):", "else LARGEST):"), (None, "            self.check(part, kind, length)\n", "")])
+def test_a_wrong_judge_is_caught(tmp_path, kind, right, wrong):
+    sites = Sites(tmp_path, tools=copied(str(tmp_path / "tools"), *TRIED, right, wrong))
+    with pytest.raises(AssertionError):
+        test_a_line_that_is_none_of_its_kind(sites, kind) if kind else test_facts_that_are_too_long_are_not_waited_for(sites)
 
 
 def test_a_small_limit_is_refused(sites):
@@ -1277,6 +1292,19 @@ def test_a_window_that_costs_too_much(folders, cost):
     assert folders.holds("here/") == folders.holds("there/") == facts(1, 2, *here, *there)
 
 
+@pytest.mark.parametrize("here, there, words", [(18000, 18000, []), (18000, 18000, ["--pull"]), (18000, 0, []), (0, 18000, [])])
+def test_a_window_of_more_facts_than_a_message_says(folders, here, there, words):
+    """A stranger's window whose digests no message has, at one end or both, is named and left out if they are needed; no other is."""
+    more = {"here/": range(9, 9 + 28 * here, 28), "there/": range(9 + 28 * 18000, 9 + 28 * 18000 + 28 * there, 28)}
+    for name, own in (("here/", 1), ("there/", 2)):
+        folders.put(name, many(own, 9 + 28 * (40000 + own), *more[name]))
+    answer = folders.sync("--json", "--limit=%d" % 2 ** 20, *words, "here/", "there/")
+    told, is_left = json.loads(answer.output or "{}"), bool(here and there)
+    assert answer.status == (5 if is_left else 0) and told.get("windows_left_out") == int(is_left), answer
+    assert not is_left or re.match("cadf-sync: left out 2024-03-10: .*is too large for a message of 1048576 bytes: raise --limit at both ends", said(answer))
+    assert many(1, 2) <= folders.holds("here/") and (words or many(1, 2) <= folders.holds("there/"))
+
+
 def test_pieces_of_a_window_that_costs_too_much(folders):
     """Those that came together and cost no more than they may are taken, and no others are counted."""
     here, there = (facts(*range(9 + 28 * first, 9 + 28 * end, 28)) for first, end in ((0, 20), (20, 60)))
@@ -1299,6 +1327,15 @@ def test_exchanges_that_a_costly_window_ends_are_caught(tmp_path, cadf, cost, ri
     folders = Folders(tmp_path, cadf, copied(str(tmp_path / "tools"), *TRIED, right, wrong))
     with pytest.raises(AssertionError):
         test_a_window_that_costs_too_much(folders, cost) if cost else test_pieces_of_a_window_that_costs_too_much(folders)
+
+
+@pytest.mark.parametrize("words, right, wrong", [
+    ([], "return fitting(self.answer_item(store, each), self.link.limit)", "return self.answer_item(store, each)"),
+    (["--pull"], "fitting(sketch(self.store, part, own, None if is_last else cells), self.far.link.limit)", "sketch(self.store, part, own, None if is_last else cells)")])
+def test_exchanges_that_a_large_window_ends_are_caught(tmp_path, cadf, words, right, wrong):
+    folders = Folders(tmp_path, cadf, copied(str(tmp_path / "tools"), *TRIED, right, wrong))
+    with pytest.raises(AssertionError):
+        test_a_window_of_more_facts_than_a_message_says(folders, 18000, 18000, words)
 
 
 def test_metrics_of_more_windows_than_files_may_be_open(folders):
