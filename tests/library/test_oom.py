@@ -61,16 +61,17 @@ WRITES = {
     "json write_all", "json write_by_std"}
 # Of these nothing is written where memory is refused.
 TEXTS = {"file write_log", "file write_conflicts", "engine run_show", "engine run_check", "engine run_rehearse",
-         "engine ask_show", "engine ask_check", "engine ask_rehearse", "engine ask_verify"}
+         "engine ask_show", "engine ask_check", "engine ask_rehearse", "engine ask_verify", "engine ask_verify_keys"}
 # What else a refusal is answered by: by a fault's text, with a count, or by a driver that takes what isn't whole as nothing.
 OTHER = {
     "event fault": r"some\tout of memory\n", "json read_by_std": r"err\tMemory\t\d+\n", "file write_inventory": "no inventory\n",
     "file write_sketch": "no inventory\n", "file inventory_digest": "no inventory\n", "file seal": "no inventory\n",
     "file root_of": "no inventory\n", "file write_seal": "no inventory\n", "file proof": "no inventory\n",
-    "file write_proof": "no inventory\n", "file verified": "no seal\n|no proof\n|no replica\n", "file read_by": "no sketch\n",
+    "file write_proof": "no inventory\n", "file verified": "no seal\n|no proof\n|no replica\n",
+    "file keys_proof": "no keys\n|no replica\n", "file verified_keys": "no seal\n|no proof\n|no keys\n", "file read_by": "no sketch\n",
     "file missing_by_sketch": "no sketch\n", "file write": "no replica\n", "file write_log": "no replica\n", "file write_conflicts": "no replica\n",
     "engine": r"no such call\n|err\tNoLog\n"}
-SIZES = {"file read", "file read_inventory", "file read_seal", "file read_proof", "file read_sketch"}  # files that are refused are read in pieces of several sizes: one is enough
+SIZES = {"file read", "file read_inventory", "file read_seal", "file read_proof", "file read_keys", "file read_sketch"}  # files that are refused are read in pieces of several sizes: one is enough
 # Many calls a row, of which other rows have one each; and other words for what those answer.
 LEFT_OUT = {"file each_failing_read", "file each_prefix", "file each_bit", "engine each", "engine metered", "engine fault"}
 LEFT_OUT_DRIVERS = {"words"}  # what clap does, whose allocations tests/command/test_faults.py refuses over the command

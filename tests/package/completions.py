@@ -37,7 +37,7 @@ COMPLETED = [
     ("split --by day a", ["split", "--by", "day", "a.cadf"]), ("split --by hour --log a", ["split", "--by", "hour", "--log", "a"]),
     ("missing-by-s", ["missing-by-sketch"]), ("missing-by-sketch a.cadf b", ["missing-by-sketch", "a.cadf", "b.json"]),
     ("pr", ["prove"]), ("prove a.cadf b", ["prove", "a.cadf", "b.json"]), ("prove a.cadf b.json a", ["prove", "a.cadf", "b.json", "a.cadf"]),
-    ("ve", ["verify"]), ("verify --a", ["verify", "--absent"]), ("verify a.cadf b.json a", ["verify", "a.cadf", "b.json", "a.cadf"]),
+    ("ve", ["verify"]), ("verify --a", ["verify", "--absent"]), ("prove --k", ["prove", "--keys"]), ("verify a.cadf b.json a", ["verify", "a.cadf", "b.json", "a.cadf"]),
     ("growth a", ["growth", "a.cadf"]), ("gro", ["growth"]), ("gre", ["grew"]), ("grew --e", ["grew", "--erased"]),
     ("grew --erased a", ["grew", "--erased", "a.cadf"]), ("grew a.cadf b", ["grew", "a.cadf", "b.json"]), ("sealed a", ["sealed", "a.cadf"]),
     ("om", ["omit"]), ("omit a.cadf b", ["omit", "a.cadf", "b.json"]), ("rule E a", ["rule", "E", "a"]), ("rule E e1 a", ["rule", "E", "e1", "a"]),

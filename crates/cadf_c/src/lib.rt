@@ -1,7 +1,7 @@
 //! Requests over bytes in memory, for C. bindings/c/cadf.h declares them and says what each caller owes.
 #![tactic(auto)]
 
-ghost use Rattle.std.specs.Prelude.{[], ◌∷◌, false, true, Ok};
+ghost use Rattle.std.specs.Prelude.{◌≡◌, [], ◌∷◌, false, true, Ok};
 ghost use Rattle.cadf_memory.specs.Memory.{bytes_in};
 ghost use Rattle.cadf_tool.specs.declared.request.Request.TheVariants as ask;
 ghost use Rattle.cadf_c.specs.Statuses.{IsCall};
