@@ -72,6 +72,16 @@ fn flag(is_given: bool) -> &'static str {
     if is_given { "true" } else { "false" }
 }
 
+/// Returns a request for a proof, as a line.
+fn prove<'a>(
+    alloc: Global,
+    keys: &'a str,
+    facts: &'a str,
+    files: &[&str],
+) -> Result<String, Memory> {
+    of_files(alloc, &["Prove", keys, facts], files)
+}
+
 /// Returns a request, as a line.
 fn asked(alloc: Global, request: &Request<'_>) -> Result<String, Memory> {
     match request {
@@ -93,11 +103,7 @@ fn asked(alloc: Global, request: &Request<'_>) -> Result<String, Memory> {
             &[*sketch],
         ),
         Request::Seal { files } => of_files(alloc, &["Seal"], files),
-        Request::Prove { keys, facts, files } => of_files(
-            alloc,
-            &["Prove", flag(*keys), facts],
-            files,
-        ),
+        Request::Prove { keys, facts, files } => prove(alloc, flag(*keys), facts, files),
         Request::Verify {
             keys,
             absent,
