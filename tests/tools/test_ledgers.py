@@ -345,6 +345,27 @@ def test_what_has_rulings_is_taken_alone(place):
     assert groups == [["a.json", "b.cadf", "c.json", "d.json"], ["a.json"], ["b.cadf"], ["c.json", "d.json"]]
 
 
+def test_what_arrives_in_a_long_run_has_its_turn(place):
+    """It is claimed each minute, here before each file, and isn't last: who has sent much keeps it out for a minute, and not for a day's seconds."""
+    for number in range(5):
+        place.send("b%d.json" % number, event("b%d" % number, "2024-03-01T12:00:00Z"))
+    program = place.program()
+    program.MOST_SECONDS = -1
+    run, names = program.Run(program.Spool(place.spool), os.path.join(place.place, "site"), "g", program.Budget(0, 2 ** 30, 60, 2 ** 32), "day", ["--windows=400"], NONE), []
+    right = run.prepared
+
+    def prepared(number, name):
+        if not names:
+            place.send("a.json", event("a", "2024-03-01T12:00:00Z"))
+        names.append(name)
+        return right(number, name)
+
+    run.prepared = prepared
+    assert run.run() == 0
+    os.close(run.spool.lock)
+    assert names[:2] == ["b0.json", "a.json"] and len(names) == 6 and len(place.holds()) == 6
+
+
 @pytest.mark.parametrize("is_failing, wanted", [
     (lambda names: "b" in names, {"a": 1, "b": 1 + 2, "c": 0.25, "d": 0.75}),  # the group and a half failed for b, which then failed alone
     (lambda names: {"a", "c"} <= names, {"a": 0.5 + 1 / 6, "b": 0.5 + 1 / 6, "c": 0.25 + 1 / 6, "d": 0.75 + 3 / 6})])
@@ -555,6 +576,7 @@ def test_files_that_are_claimed_wait_if_their_sender_has_cost_too_much(shared):
 @pytest.mark.parametrize("check, texts", [
     (test_files_that_nobody_closes, ["if self.named <= MOST_SAID:", "if True:"]),
     (test_no_file_without_bytes_makes_others_wait, ["for name, size in self.bytes_waiting().items():", "for name, size in ((name, each.st_size) for name, each in self.waiting().items()):"]),
+    (test_what_arrives_in_a_long_run_has_its_turn, ["            self.claim_arrived()\n\n", ""]),
     (test_many_files_of_one_name, ["+= 2 ** (tries // FEW_OF_A_NAME)", "+= 1"]),
     (test_hard_links, ["found.st_nlink > 1", "found.st_nlink > 100"]),
     (test_bytes_of_a_day, ["if (made or part != self.spool.taking) and is_there(each, part):", "if False:"]),
