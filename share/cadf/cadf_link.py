@@ -139,6 +139,11 @@ def batches(items, limit):
     return grouped(items, size_of, min(limit, ENOUGH) - len("\n"), MOST_ITEMS)
 
 
+def no_items(word):
+    """What is said of a message of that word that has no items, or others than it may have."""
+    return "no items that may answer" if word == "answer" else "no items that may be in a request `%s`" % word
+
+
 class Lines:
     """What came of the lines of an item, which are judged by their lengths."""
 
@@ -168,8 +173,9 @@ class Lines:
 class Judged:
     """What came of a message of items, which is judged before all of it is there. What isn't refused here may be so later."""
 
-    def __init__(self, peer, check):
-        self.peer, self.check, self.table, self.items = peer, check, b"", None  # of what is in the table: a part, a kind, a length, and its lines
+    def __init__(self, peer, word, check):
+        self.peer, self.check, self.table, self.items = peer, check, b"", None  # of what is in the table: how much of it is to come, and its lines
+        self.refusal = "%s: %s" % (peer, no_items(word))
 
     def add(self, data):
         """Adds further bytes. Raises what is known to be wrong."""
@@ -178,7 +184,7 @@ class Judged:
             table, is_whole, data = (b"\n" + self.table).partition(b"\n\n")
             if not is_whole:
                 if len(table) > MOST_ITEMS * LONGEST_ENTRY:
-                    raise Wrong("%s: no table of items" % self.peer)
+                    raise Wrong(self.refusal)
                 return
             self.begin([line + b"\n" for line in table.split(b"\n")[1:]])
         while data and self.items:
@@ -190,9 +196,11 @@ class Judged:
             data = data[length:]
 
     def begin(self, table):
-        """Begins the items of a table; none of one that isn't of items, which is refused when all is there."""
+        """Begins the items of a table."""
         self.table, self.items, found = b"", [], [ENTRY.fullmatch(line) for line in table]
-        for part, kind, length in ((each[1].decode(), each[2].decode(), int(each[3])) for each in found if all(found)):
+        if not all(found):
+            raise Wrong(self.refusal)
+        for part, kind, length in ((each[1].decode(), each[2].decode(), int(each[3])) for each in found):
             self.check(part, kind, length)
             self.items.append((length, Lines("%s: the %s of %s" % (self.peer, kind, part), kind) if kind in LONG_KINDS else None))
 
@@ -355,7 +363,7 @@ class Link:
                 raise Wrong("%s: no message that it may send: %s" % (self.peer, shown(line)))
             if length > self.limits.limit:
                 raise Wrong("%s: a message of %d bytes, and --limit is %d" % (self.peer, length, self.limits.limit))
-            judged = [Judged(self.peer, self.check_facts).add] if word in OF_ITEMS else []
+            judged = [Judged(self.peer, word, self.check_facts).add] if word in OF_ITEMS else []
             return Message(word, self.receive(length, *judged), length)
         raise Wrong("%s: it says that it works, again and again, and nothing else" % self.peer)
 

@@ -521,7 +521,8 @@ def test_facts_that_are_too_long_are_not_waited_for(sites):
     ("an inventory's line without an end", "            judge(block)\n", ""), ("short cells", "and self.length not in self.lengths:", "and False:"),
     ("a log's name without an end", "else LONGEST_BEFORE):", "else LARGEST):"), (None, "            self.check(part, kind, length)\n", "")])
 def test_a_wrong_judge_is_caught(tmp_path, kind, right, wrong):
-    sites = Sites(tmp_path, tools=copied(str(tmp_path / "tools"), *TRIED, right, wrong))
+    (tmp_path / "sites").mkdir()
+    sites = Sites(tmp_path / "sites", tools=copied(str(tmp_path / "copy"), *TRIED, right, wrong))
     with pytest.raises(AssertionError):
         test_a_line_that_is_none_of_its_kind(sites, kind) if kind else test_facts_that_are_too_long_are_not_waited_for(sites)
 
