@@ -9,6 +9,7 @@ import contextlib
 import getpass
 import hashlib
 import json
+import os
 import re
 import socket
 import subprocess
@@ -18,7 +19,7 @@ from typing import NamedTuple
 from cadf_budget import BYTES, SECONDS, confine
 from cadf_index_file import keep_refused_signatures, refused_signatures
 from cadf_question import text_typed
-from cadf_site import Folder, is_folder
+from cadf_site import INDEX, Folder, is_folder
 from cadf_toolkit import Fault, is_log_name, name_shown, opened, printable, started, with_digest
 
 EVENT, RULING = "E", "U"
@@ -207,7 +208,8 @@ class Refused:
         self.new = set()
 
     def is_kept(self):
-        return self.site is not None and is_folder(self.site)
+        """Whether there is a folder that may have an index, which one that is to be made has not."""
+        return self.site is not None and is_folder(self.site) and os.path.lexists(os.path.join(self.site, INDEX))
 
 
 class Allowed:

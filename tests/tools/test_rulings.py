@@ -234,6 +234,13 @@ def test_a_ruling_that_is_not_taken_costs_one_program(sites):
         assert count() == wanted
 
 
+def test_a_forged_signature_for_a_site_that_is_new(sites):
+    """There is no index to keep it yet: all else is brought, and the next call asks again."""
+    sites.take(sites.put("forged.cadf", {("U", "E", "e", sites.digest("E1")), *forged(sites, 2)}), site="south")
+    status, _, lines = sites.run("sync", "--quiet", "--pull", "--rulings-by", "allowed", "new/", "south/")
+    assert status == 0 and len(lines) == 1 and "left out: 1 rulings aren't welcome" in lines[0], lines
+
+
 def test_refused_signatures_that_are_kept(sites):
     """There are at most so many, the latest."""
     with cadf_site.Folder(str(sites.path / "north")) as folder:
