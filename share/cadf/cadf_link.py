@@ -198,7 +198,7 @@ class Judged:
     def begin(self, table):
         """Begins the items of a table."""
         self.table, self.items, found = b"", [], [ENTRY.fullmatch(line) for line in table]
-        if not all(found):
+        if not 0 < len(found) <= MOST_ITEMS or not all(found):
             raise Wrong(self.refusal)
         for part, kind, length in ((each[1].decode(), each[2].decode(), int(each[3])) for each in found):
             self.check(part, kind, length)
