@@ -406,9 +406,9 @@ class Link:
         if self.faults:
             raise self.faults[0]
 
-    def asked(self, word, answer, items):
-        """Sends a request and reads its answer meanwhile, which has that word."""
-        with self.beside(lambda: self.send_message(word, items=items)) as (thread, faults):
+    def asked(self, word, answer, items=(), content=b""):
+        """Sends a request of items, or of bytes, and reads its answer meanwhile, which has that word."""
+        with self.beside(lambda: self.send_message(word, content, items)) as (thread, faults):
             found = self.answer(answer)
             thread.join(self.limits.timeout)
             is_early = thread.is_alive()

@@ -29,6 +29,7 @@ HELP = {
     "facts_erased_total": "Facts that were erased, or that came of what was erased and were dropped.",
     "facts_lacked": "Facts of the other site that the site lacks.",
     "facts_lacked_by_peer": "Facts that the peer lacked when the last run compared.",
+    "facts_erased_by_peer": "Facts of the site that the peer erased.",
     "windows_not_kept_by_peer": "Windows of the site that the peer keeps no more.",
     "files": "Files of the last run, by what became of them.",
     "set_aside_files": "Files that wait in set-aside/ for a person.",

@@ -8,12 +8,14 @@ import datetime
 import hashlib
 import heapq
 import itertools
+import json
 import os
 import re
 import secrets
 import subprocess
 import tempfile
 
+import cadf_erased
 import cadf_gone
 import cadf_site
 from cadf_index import files_of, size_of
@@ -86,11 +88,15 @@ def made(words, inputs, name):
 # ---- Sites
 
 class AllKept:
-    """A site that forgot nothing."""
+    """A site that forgot and erased nothing."""
 
     def kept(self):
         """What it keeps."""
         return cadf_gone.ALL
+
+    def erased(self):
+        """The list of what it erased."""
+        return cadf_erased.Erased(json.dumps(self.log, ensure_ascii=False))
 
 
 class NoSite(AllKept):
@@ -160,6 +166,10 @@ class FolderSite:
         """What it keeps now."""
         return self.folder.gone().kept
 
+    def erased(self):
+        """The list of what it has erased now."""
+        return self.folder.erased()
+
     def digests(self, _, is_wanted):
         """The digest of each part that is wanted."""
         parts, new, found = self.folder.site().parts(), {}, {}
@@ -195,6 +205,62 @@ class FolderSite:
         """The files of a part as inputs; or the one of these digits, if `site` names it."""
         with self.opened(part) as inputs:
             yield [each for (_, digest), each in inputs.items() if only in (None, digest)]
+
+
+class WithoutErased:
+    """A site as another one may have it that erased what is on a list: without that. A part that has nothing else isn't there."""
+
+    def __init__(self, windows, listed):
+        self.windows, self.listed, self.log, self.unit = windows, listed, windows.log, windows.unit
+        self.kept, self.erased = windows.kept, windows.erased
+        self.folder = getattr(windows, "folder", None)
+        self.has_keys = bool(listed.keys())
+        self.counts = {}  # by part: how many facts the list leaves out
+
+    def is_asked(self, part):
+        """Whether the list may leave out something of a part: without keys it does so of rulings alone."""
+        return self.has_keys or part in (SHARED, ALL)
+
+    def digests(self, unit, is_wanted):
+        """The digest of what is left of each part that is wanted, if something is. The folder's index keeps them by the list."""
+        kind, new, parts = "without " + self.listed.digits(), {}, self.folder.site().parts() if self.folder else {}
+        known, found = kept(self.folder, kind, [beside]) if self.folder else {}, {}
+        for part, digest in self.windows.digests(unit, is_wanted).items():
+            key = files_of(parts.get(part, ()))
+            row = known.get(key) if part in parts else None
+            if not self.is_asked(part):
+                found[part] = digest
+                continue
+            if row is None:
+                with contextlib.suppress(LeftOut), self.windows.files(part) as own, self.left(own) as left:
+                    count = cadf_erased.facts_in(own) - cadf_erased.facts_in(left) if last_digest(left[0].file) != digest else 0
+                    row = "%s %d" % (last_digest(left[0].file), count), sum(os.fstat(each.file.fileno()).st_size for each in own), 0
+                    new[key] = row
+            left, count = row[0].split(" ") if row else (digest, "0")  # a part that can't be read is equal to none
+            self.counts[part] = int(count)
+            if left != cadf_site.nothing_of(self.erased().log):
+                found[part] = left
+        if self.folder:
+            keep(self.folder, kind, new, [beside])
+        return found
+
+    @contextlib.contextmanager
+    def left(self, inputs):
+        """What the list leaves of inputs together, as one."""
+        with self.listed.opened() as listed, cadf_erased.nothing(self.listed.log) as empty:
+            found = cadf_erased.omitted(listed, empty, inputs)
+            with found.file:
+                yield [found]
+
+    @contextlib.contextmanager
+    def files(self, part, only=None):
+        """What is left of the files of a part, as inputs."""
+        with self.windows.files(part, only) as own:
+            if not own or not self.is_asked(part):
+                yield own
+                return
+            with self.left(own) as left:
+                yield left if last_digest(left[0].file) != cadf_site.nothing_of(self.listed.log) else []
 
 
 def is_wanted(part, since):
