@@ -86,7 +86,10 @@ class OfParts:
 
 
 class SiteSeal(OfParts):
-    """The seal of a folder: the roots of each part; if it forgot something its floor, and the roots of each window that went."""
+    """The seal of a folder: the roots of each part; if it forgot something its floor, and the roots of each window that went.
+
+    Made of a folder, it also has what a seal doesn't tell: the parts of which facts were erased, each with its roots before and after, in order.
+    """
     FIRST = b"CADF-SITE-SEAL 1"
     OTHER = "no seal of a folder, as `cadf-seal SITE/` writes it"
 
@@ -94,6 +97,7 @@ class SiteSeal(OfParts):
         super().__init__(log, unit)
         self.floor = gone.kept.floor if gone else None
         self.gone = {part: roots_in(gone.windows[part].split(" ")) for part in sorted(gone.windows)} if gone else {}
+        self.erased = [(part, *(roots_in(each.split(" ")) for each in roots)) for part, *roots in gone.erased] if gone else []
 
     def went(self):
         return ("" if self.floor is None else "T %s\n%s" % (self.floor, "".join("G %s %s\n" % item for item in self.gone.items()))).encode()
@@ -226,6 +230,14 @@ class Difference(NamedTuple):
     words: str
     is_loss: bool
     is_as_sealed: bool = False  # a window that went with what it had by the earlier seal
+    is_erased: bool = False  # one of which facts were erased when it had what it has by the earlier seal
+
+
+def erased_since(seal, part, roots):
+    """How many facts of a part were erased since it had these roots, by what a folder says; 0 if it had others when facts were first erased since then."""
+    acts = [each[1:] for each in seal.erased if each[0] == part]
+    first = next((place for place, (before, _) in enumerate(acts) if before == roots), len(acts))
+    return sum(before.facts - after.facts for before, after in acts[first:])
 
 
 def differences(then, now, but):
@@ -237,6 +249,8 @@ def differences(then, now, but):
                 yield Difference(part, "gone then, now %s" % ("%d facts" % new.facts if new else "not told, or otherwise"), True)
         elif old is None:
             yield Difference(part, "new, facts now %d" % new.facts, False)
+        elif new != old and (count := erased_since(now, part, old)):
+            yield Difference(part, "erased %d facts, facts then %d, now %d" % (count, old.facts, new.facts if new else 0), True, False, True)
         elif new is None:
             why = "" if went is None else ": %d when it went" % went.facts
             yield Difference(part, "gone %s, facts then %d%s" % ("as it was sealed" if went == old else "otherwise", old.facts, "" if went == old else why), True, went == old)

@@ -427,6 +427,49 @@ def test_it_forgets_and_erases(place):
     assert held(place) == set() and lists(place)[2] == {key_name("E", "e2"), key_name("E", "e3")}
 
 
+# ---- Seals
+
+def erased_by_seals(place):
+    """An erasure is a loss until the auditor gives a list; a proof of growth shows that just the facts on it went; what grows besides is no loss."""
+    place.site(1, 2, 3)
+    place.run("cadf-take", "site", place.put("more.json", event("x", 1)))
+    (place.path / "old.seal").write_bytes(place.run("cadf-seal", "--keep", "site").output)
+    place.run("cadf-erase", "site", "e1", "e2")
+    place.run("cadf-erase", "site", "x")
+    place.run("cadf-take", "site", place.put("later.json", event("e5", 3)))
+    lines = "2024-03-01: erased 2 facts, facts then 2, now 0\n2024-03-02: erased 1 facts, facts then 1, now 0\n2024-03-03: facts then 1, now 2\n"
+    path = next((place.path / "site").glob("erased.*"))
+    done = place.run("cadf-seal", "--compare", "old.seal", "site", status=1)
+    assert done.output.decode() == lines and b"windows that are gone or erased: 2\n" in done.error
+    done = place.run("cadf-seal", "--compare", "old.seal", "--erased", str(path), "site", status=5)
+    assert done.output.decode() == lines and b"gone" not in done.error
+    (place.path / "list").write_bytes(list_with(ERASED, "g", [], [key_name("E", "e1")]))
+    assert b"names that this one hasn't" in place.run("cadf-seal", "--compare", "old.seal", "--erased", "list", "site", status=1).error
+    (place.path / "proof").write_bytes(place.run("cadf-seal", "--growth", "old.seal", "--new", "new.seal", "site").output)
+    names = ["old.seal", "new.seal", "proof"]
+    assert b"facts: gone: " in place.run("cadf-seal", "--grew", *names, status=1).error
+    assert b"facts: gone: " in place.run("cadf-seal", "--grew", "--erased", "list", *names, status=1).error
+    shown = place.run("cadf-seal", "--grew", "--erased", str(path), *names).output.decode()
+    assert shown == "2024-03-01: added 0, erased 2\n2024-03-02: added 0, erased 1\n2024-03-03: added 1, erased 0\nadded 1, erased 3\n"
+
+
+def test_erased_by_seals(place):
+    erased_by_seals(place)
+
+
+def test_a_seal_after_an_erasure(place):
+    """It is as any other: what was erased before it is no loss since."""
+    place.site(1, 2)
+    place.run("cadf-take", "site", place.put("more.json", event("x", 1)))
+    place.run("cadf-erase", "site", "e1")
+    (place.path / "old.seal").write_bytes(place.run("cadf-seal", "site").output)
+    assert place.run("cadf-seal", "--compare", "old.seal", "site").output == b""
+    place.run("cadf-take", "site", place.put("later.json", event("e5", 1)))
+    assert place.run("cadf-seal", "--compare", "old.seal", "site", status=5).output == b"2024-03-01: facts then 1, now 2\n"
+    (place.path / "new.seal").write_bytes(place.run("cadf-seal", "site").output)
+    assert place.run("cadf-seal", "--compare", "old.seal", "--erased", "nothing", "new.seal", status=5).output == b"2024-03-01: facts then 1, now 2\n"
+
+
 # ---- Kills
 
 def killed_anywhere(place):
@@ -467,6 +510,8 @@ WRONG = {
     "files go first": (killed_anywhere, ["        self.put(Index(before.log, before.unit, lines, gone.digits(), erased.digits() if erased.names else None))\n",
                                         "        for part, digest in before.entries():\n            if digest not in self.digests(part):\n                self.is_removed(file_name(part, digest))\n"
                                         "        self.put(Index(before.log, before.unit, lines, gone.digits(), erased.digits() if erased.names else None))\n"]),
+    "a site's word is enough for an auditor": (erased_by_seals, ["each.is_erased and options.erased is not None]", "each.is_erased]", "    if allowed:\n        check", "    if allowed and options.erased:\n        check"]),
+    "any list is enough": (erased_by_seals, ["        check_erased(name, options.erased)\n", "        pass\n"]),
     "the facts that went have no names": (a_person_goes, ['listed = listed.with_names(name for name in went.names if name.startswith(b"F"))', "pass"]),
     "what comes is taken": (dropped, ["        with found.left_of(inputs) as (inputs, limits.erased):\n", "        with contextlib.nullcontext((inputs, 0)) as (inputs, limits.erased):\n"]),
     "the rest has it": (dropped, ["            with limits.finished(found, inputs):\n                found.join_by_size()",

@@ -35,7 +35,32 @@ def test_what_is_read_is_written(place):
     assert cadf_gone.Gone.read(data, '"h"', "day") is cadf_gone.Gone.read(data, '"g"', "month") is cadf_gone.Gone.read(data[:-1], '"g"', "day") is None
 
 
+ERASED = ['E 2026-12-03T10:00:00Z ["ann","request 17"]', "X shared 2 %s 1 %s 1 %s 1 %s" % (SOME, OTHER, OTHER, SOME),
+          "X 2024-03-01 3 %s 2 %s 0 %s 0 %s" % (SOME, SOME, OTHER, OTHER), "X 2024-03-04 3 %s 2 %s 2 %s 2 %s" % (SOME, SOME, OTHER, OTHER)]
+
+
+def test_an_erasure_is_read():
+    """It has a line for each part that it touched, also of a held window; other acts may follow, and what is kept is as before."""
+    data = gone_of([*ACTS, *ERASED, ERASED[0], ERASED[1]])
+    found = cadf_gone.Gone.read(data, '"g"', "day")
+    assert found.bytes() == data and found.kept == ("2024-03-03", {"2024-03-01"}) and list(found.windows) == ["2024-03-02"]
+    assert found.erased == [tuple([line.split(" ")[1], *(" ".join(line.split(" ")[at:at + 4]) for at in (2, 6))]) for line in [*ERASED[1:], ERASED[1]]]
+    assert found.after_erasure("2026-12-04T10:00:00Z", "ann", "").bytes() == gone_of([*ACTS, *ERASED, ERASED[0], ERASED[1], 'E 2026-12-04T10:00:00Z ["ann",""]'])
+    assert cadf_gone.Gone.read(gone_of(ERASED[:2]), '"g"', "day").kept == cadf_gone.ALL
+
+
 WRONG = {
+    "what was touched without an erasure": [*ACTS, ERASED[1]],
+    "what was touched alone": ERASED[1:2],
+    "a falling part": [*ACTS, ERASED[0], ERASED[2], ERASED[1]],
+    "a part twice": [*ACTS, *ERASED[:2], ERASED[1]],
+    "a part that went": [*ACTS, ERASED[0], ERASED[2].replace("03-01", "03-02")],
+    "a part of another unit": [*ACTS, ERASED[0], ERASED[2].replace("03-01", "03")],
+    "no fewer facts": [*ACTS, ERASED[0], ERASED[1].replace("shared 2", "shared 1")],
+    "too many facts": [*ACTS, ERASED[0], ERASED[1].replace("shared 2", "shared 18446744073709551616")],
+    "a zero before a number": [*ACTS, ERASED[0], ERASED[1].replace("shared 2", "shared 02")],
+    "who erased in another text": [*ACTS, ERASED[0].replace('","', '", "')],
+    "a window that went by an erasure": [*ACTS[:2], ERASED[0], ACTS[2]],
     "no act": [],
     "a floor that falls": [*ACTS, 'T 2024-03-02 2026-12-02T10:00:00Z ["",""]'],
     "another unit": [*ACTS, 'T 2024-04 2026-12-02T10:00:00Z ["",""]'],
