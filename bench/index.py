@@ -6,8 +6,8 @@
 A site of so many days, with so many events of OpenStack's shape a day, of which one in 200 has a second body, on its day or the
 next. First `cadf show` of each window, and the index as the first question makes it, with its bytes. Then questions by the index
 and by --no-index, the list of conflicts, and seals: the first, one by kept roots, and one after a day was taken. At last a take of
-a further day where there is no index. With --beside the same questions are put to jq over the log's lines, compressed by gzip, to
-ripgrep over them as they are, and to SQLite.
+a further day where there is no index. The tools are run as the package has them, with what they share compiled. With --beside
+the same questions are put to jq over the log's lines, compressed by gzip, to ripgrep over them as they are, and to SQLite.
 """
 import contextlib
 import datetime
@@ -19,7 +19,7 @@ import sqlite3
 import sys
 import tempfile
 
-from measure import TOP, Trial, asked, best_of, run_apart
+from measure import Trial, asked, best_of, packaged, run_apart
 
 FIRST = datetime.datetime(2024, 1, 1)
 USERS, ACTIONS = 400, ("read", "read/list", "create", "update", "delete", "authenticate")
@@ -47,7 +47,7 @@ class Site(Trial):
 
     def __init__(self, options, folder):
         super().__init__(options, folder)
-        self.site, self.environment = self.path("site/"), dict(os.environ, CADF=self.binary)
+        self.site, self.environment, self.tools = self.path("site/"), dict(os.environ, CADF=self.binary), packaged(self.path("package"))
 
     def take(self, days, events):
         """Takes so many events of each of some days. Returns what that took."""
@@ -66,7 +66,7 @@ class Site(Trial):
         return found
 
     def call(self, name, *words):
-        return run_apart([os.path.join(TOP, "tools", name), *words], statuses=(0, 5), environment=self.environment)
+        return run_apart([os.path.join(self.tools, name), *words], statuses=(0, 5), environment=self.environment)
 
     def tell(self, said, found, beside=""):
         print("| %s | %.2f s | %.2f s | %.0f MB | %s |" % (said, found.processors, found.wall, found.memory, beside), flush=True)
@@ -85,7 +85,7 @@ class Site(Trial):
 def make_others(site):
     """Makes the log's lines, as they are and compressed, and a table of them with indexes. Returns the paths, for a shell."""
     lines, table = site.path(), site.path()
-    run_apart([os.path.join(TOP, "tools", "cadf-events"), "--contradicted=mark", site.site], lines, statuses=(0, 5), environment=site.environment)
+    run_apart([os.path.join(site.tools, "cadf-events"), "--contradicted=mark", site.site], lines, statuses=(0, 5), environment=site.environment)
     run_apart(["gzip", "-k", lines])
     with contextlib.closing(sqlite3.connect(table)) as opened, open(lines, "rb") as file:
         opened.execute("CREATE TABLE events (id TEXT, at TEXT, action TEXT, initiator TEXT, body TEXT)")

@@ -1,5 +1,6 @@
 """What the benchmarks share: what a command takes, in time, memory and instructions; generated replica files."""
 import argparse
+import compileall
 import hashlib
 import json
 import os
@@ -52,6 +53,14 @@ class Trial:
         path = self.path()
         run_apart([self.binary, *words], path)
         return path
+
+
+def packaged(folder):
+    """Copies the tools and what they share into the folder, compiled as the package has it. Returns the folder of the tools."""
+    for name in ("tools", "share"):
+        shutil.copytree(os.path.join(TOP, name), os.path.join(folder, name))
+    compileall.compile_dir(os.path.join(folder, "share"), quiet=1)
+    return os.path.join(folder, "tools")
 
 
 class Run(NamedTuple):

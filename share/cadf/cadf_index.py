@@ -52,7 +52,8 @@ PRAGMAS = ("trusted_schema = off", "secure_delete = on", "temp_store = memory", 
 OF_SEVERAL = ("(SELECT bodies.* FROM asked_windows CROSS JOIN places ON places.window = asked_windows.id"
               " CROSS JOIN bodies ON bodies.key = places.key AND bodies.window = places.window GROUP BY bodies.rowid)")
 KEY_BYTES, LONGEST_TEXT, LARGEST_BODY = 16, 2 ** 12, 2 ** 24
-ROWS_AT_ONCE, PATTERNS_AT_ONCE = 2 ** 14, 64
+ROWS_AT_ONCE, TEXTS_AT_ONCE, PATTERNS_AT_ONCE = 2 ** 14, 500, 64
+MOST_NUMBERS = 2 ** 63  # of texts, as SQLite has them
 REFUSED_SIGNATURES = "refused signatures"  # the kind of what is kept that belongs to no files
 DECODE = json.JSONDecoder().raw_decode  # made once: that takes as long as a use
 MALFORMED = (*UNREADABLE, AttributeError, KeyError, TypeError)
@@ -166,9 +167,10 @@ def add_bodies(lines, own):
     """Adds the bodies in the lines of a key, as lines, each with the lines of its steps."""
     steps, is_chain = set(), False
     for line in lines.split(b"\n"):
-        if line.startswith(b"[3,"):
+        depth = line[:3]
+        if depth == b"[3,":
             steps, is_chain = own.setdefault(line, set()), False
-        elif line.startswith(b"[4,"):
+        elif depth == b"[4,":
             is_chain = line == b'[4,0,"C"]'
         elif is_chain and line:
             steps.add(line)
@@ -176,8 +178,10 @@ def add_bodies(lines, own):
 
 def value_in(line):
     """The value whose canonical text a node's line has."""
-    line = line.decode()
-    text = DECODE(line)[0][2] if "\\\\" in line else line[line.index('"') + 1:line.rindex('"')].replace('\\"', '"')  # which takes half of the time
+    if b"\\\\" in line:
+        text = DECODE(line.decode())[0][2]
+    else:  # which takes half of the time
+        text = line[line.index(b'"') + 1:line.rindex(b'"')].replace(b'\\"', b'"').decode()
     return DECODE(text)[0]
 
 
@@ -331,11 +335,18 @@ class EventIndex:
 
     def numbers_of(self, column, texts):
         """The numbers of texts of a column with their hashes, which they may get now; 0 of one that isn't kept."""
-        found, look, add = {}, *(each.format(column) for each in ("SELECT id FROM {}_texts WHERE hash = ? AND text = ?", "INSERT INTO {}_texts (hash, text) VALUES (?, ?)"))
-        for words in sorted(texts):
-            known = self.run(look, words).fetchone() if len(words[1]) <= LONGEST_TEXT else [0]
-            found[words] = known[0] if known else self.run(add, words).lastrowid
-        return found
+        found, wanted = {}, sorted(words for words in texts if len(words[1]) <= LONGEST_TEXT)
+        for begin in range(0, len(wanted), TEXTS_AT_ONCE):
+            hashes = [own for own, _ in wanted[begin:begin + TEXTS_AT_ONCE]]
+            rows = self.run("SELECT hash, text, id FROM %s_texts WHERE hash IN (%s)" % (column, ", ".join("?" * len(hashes))), hashes)
+            found.update((tuple(words), number) for *words, number in rows)
+        new = [words for words in wanted if words not in found]
+        first = (self.run("SELECT max(id) FROM %s_texts" % column).fetchone()[0] or 0) + 1
+        if first + len(new) > MOST_NUMBERS:
+            raise Untrusted("it has no numbers left")
+        found.update((words, first + place) for place, words in enumerate(new))
+        self.connection.executemany("INSERT INTO %s_texts (id, hash, text) VALUES (?, ?, ?)" % column, ((found[words], *words) for words in new))
+        return {words: found.get(words, 0) for words in texts}
 
     def put_places(self, folder, batch):
         """Puts where the lines of touched keys are that have several bodies now. Of windows that aren't in the batch these are looked for."""

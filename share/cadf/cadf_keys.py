@@ -14,7 +14,7 @@ from typing import NamedTuple
 
 from cadf_logs import utc
 from cadf_site import CHANGED, DAMAGED, SHARED, TRIES, UNITS, Folder, is_folder, made_of_parts, tell_damaged
-from cadf_toolkit import REFUSED, Fault, Input, cadf, in_order, most_files, opened, undigested, with_digest
+from cadf_toolkit import LAST_LINE, REFUSED, Fault, Input, cadf, in_order, most_files, opened, undigested, with_digest
 
 AT_ONCE = 256  # files that one call is given, where as many may be open
 LARGEST = 2 ** 28  # bytes of windows whose common keys are put together at once
@@ -31,9 +31,9 @@ def spelled(identifier):
 
 def contents(digest, each):
     """The lines of a site's file before its digest line, which has to be the one of these digits."""
-    data = each.whole()
-    lines = undigested(data)
-    if data[len(lines):] != b"Z %s\n" % digest.encode() or hashlib.sha256(lines).hexdigest() != digest:
+    with each.judged(), each.reading() as file:
+        lines, last = file.read(max(0, os.fstat(file.fileno()).st_size - LAST_LINE)), file.read()  # so that the lines aren't copied
+    if last != b"Z %s\n" % digest.encode() or lines[-1:] not in (b"\n", b"") or hashlib.sha256(lines).hexdigest() != digest:
         raise Fault("%s: %s" % (each.name, DAMAGED), REFUSED)
     return lines
 

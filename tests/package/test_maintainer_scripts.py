@@ -7,10 +7,11 @@ import pytest
 from tests import TOP, text_of
 
 RELOAD = "systemctl --system daemon-reload"
-MADE = ["systemd-sysusers cadf.conf", "systemd-tmpfiles --create cadf.conf"]
+COMPILE, COMPILED = "py3compile -p cadf /usr/share/cadf", "/usr/share/cadf/__pycache__"
+MADE = [COMPILE, "systemd-sysusers cadf.conf", "systemd-tmpfiles --create cadf.conf"]
 STARTED = [RELOAD, "deb-systemd-invoke try-restart cadf-listen@*.service"]
 ENDED = ["deb-systemd-invoke stop cadf-*@*.timer", "deb-systemd-invoke stop cadf-*@*.service"]
-PROGRAMS = ("systemd-sysusers", "systemd-tmpfiles", "systemctl", "deb-systemd-invoke")
+PROGRAMS = ("py3compile", "systemd-sysusers", "systemd-tmpfiles", "systemctl", "deb-systemd-invoke")
 PLACES = ("/run/systemd/system", "/etc/systemd/system", "/var/lib/systemd/timers")
 STUB = '#!/bin/sh\necho "${0##*/} $*" >>"$CALLS"\n[ "${0##*/}" != "$FAILS" ]\n'
 
@@ -30,7 +31,7 @@ class System:
     def run(self, script, word, fails=""):
         """The status of a script, and the calls that it made."""
         text = text_of("install", "debian", "cadf." + script)
-        for place in PLACES:
+        for place in (*PLACES, COMPILED):
             text = text.replace(place, str(self.folder) + place)
         (self.folder / "calls").write_text("")
         (self.folder / script).write_text(text)
@@ -41,7 +42,8 @@ class System:
 
 @pytest.mark.parametrize("script, word, fails, wanted", [
     ("postinst", "configure", "", (0, MADE + STARTED)), ("postinst", "configure", "systemd-tmpfiles", (0, MADE + STARTED)),
-    ("postinst", "configure", "deb-systemd-invoke", (0, MADE + STARTED)), ("postinst", "configure", "systemd-sysusers", (1, MADE[:1])),
+    ("postinst", "configure", "deb-systemd-invoke", (0, MADE + STARTED)), ("postinst", "configure", "systemd-sysusers", (1, MADE[:2])),
+    ("postinst", "configure", "py3compile", (0, MADE + STARTED)),
     ("postinst", "abort-upgrade", "", (0, [])),
     ("prerm", "remove", "", (0, ENDED)), ("prerm", "remove", "deb-systemd-invoke", (1, ENDED[:1])), ("prerm", "upgrade", "", (0, [])),
     ("postrm", "remove", "", (0, [RELOAD])), ("postrm", "purge", "", (0, [RELOAD])), ("postrm", "upgrade", "", (0, [RELOAD])),
@@ -55,6 +57,17 @@ def test_calls(tmp_path, script, word, fails, wanted):
 def test_without_systemd(tmp_path, script, word, wanted):
     """As in a container: users and folders are made, and nothing is asked of systemd."""
     assert System(tmp_path, is_booted=False).run(script, word) == (0, wanted)
+
+
+@pytest.mark.parametrize("word", ["remove", "upgrade"])
+def test_what_was_compiled(tmp_path, word):
+    """It goes before the modules do, or others come in their place."""
+    system = System(tmp_path)
+    (tmp_path / COMPILED[1:]).mkdir(parents=True)
+    (tmp_path / COMPILED[1:] / "cadf_site.cpython-311.pyc").write_text("")
+    (tmp_path / "usr/share/cadf/cadf_site.py").write_text("")
+    assert system.run("prerm", word)[0] == 0
+    assert os.listdir(tmp_path / "usr/share/cadf") == ["cadf_site.py"]
 
 
 def test_purge(tmp_path):
