@@ -10,6 +10,7 @@ cadf_index_file has where it is, and whether it is trusted.
 import collections
 import contextlib
 import functools
+import gc
 import hashlib
 import itertools
 import json
@@ -55,6 +56,7 @@ KEY_BYTES, LONGEST_TEXT, LARGEST_BODY = 16, 2 ** 12, 2 ** 24
 ROWS_AT_ONCE, TEXTS_AT_ONCE, PATTERNS_AT_ONCE = 2 ** 14, 500, 64
 MOST_NUMBERS = 2 ** 63  # of texts, as SQLite has them
 REFUSED_SIGNATURES = "refused signatures"  # the kind of what is kept that belongs to no files
+SELDOM = 10 ** 5  # objects that are made between two looks for cycles
 DECODE = json.JSONDecoder().raw_decode  # made once: that takes as long as a use
 MALFORMED = (*UNREADABLE, AttributeError, KeyError, TypeError)
 
@@ -225,6 +227,17 @@ def row_of(body, steps, texts):
 
 # ---- The index
 
+@contextlib.contextmanager
+def seldom_collected():
+    """A context in which Python, and what it forks, seldom looks for cycles: rows are none, and to look for them takes a twentieth of the time."""
+    before = gc.get_threshold()
+    gc.set_threshold(SELDOM)
+    try:
+        yield
+    finally:
+        gc.set_threshold(*before)
+
+
 def counted(by):
     """What rows have in SQL that are counted so."""
     return by if by in COLUMNS else "second / %d" % LENGTHS[by] if by in LENGTHS else "others"
@@ -281,7 +294,7 @@ class EventIndex:
 
     def put_all(self, folder, stale, progress):
         """Puts what these windows have now in the place of what it has of them, some at a time."""
-        with contextlib.closing(made_or_left_out([folder], stale, functools.partial(read_window, folder), usable())) as windows:
+        with seldom_collected(), contextlib.closing(made_or_left_out([folder], stale, functools.partial(read_window, folder), usable())) as windows:
             batch = {}
             for count, (part, each) in enumerate(windows, 1):
                 progress.count(len(stale) - count, "windows to read")
@@ -393,6 +406,7 @@ class EventIndex:
                 self.table(column, self.texts_of(column, question, kind))
         if question.has_ids and "id" in question.patterns:
             self.table("key", (key_of(spelled(each.parts[0])) for each in question.patterns["id"]))
+            self.run("DELETE FROM asked_windows WHERE id NOT IN (SELECT window FROM bodies WHERE key IN asked_key)")
         for sign, at in ((">=", question.limits.first), ("<", question.limits.until)):
             if at is not None:
                 self.where.append("coalesce((second, nanosecond) %s (?, ?), 1)" % sign)

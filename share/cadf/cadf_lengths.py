@@ -79,8 +79,8 @@ def mapped(input):
         yield data
 
 
-def events_in(data):
-    """Yields of each event in a replica file where its lines begin and end."""
+def events_in(data, least=0):
+    """Yields of each event in a replica file that has more bytes than that where its lines begin and end. Those that have fewer together are passed over at once."""
     place = data.find(EVENTS)
     if place < 0:
         return
@@ -88,8 +88,10 @@ def events_in(data):
     end = (end if end >= 0 else data.rfind(b"\nZ ")) + 1
     place = data.find(KEY, place, end) + 1
     while place:
-        after = data.find(KEY, place, end) + 1
-        yield place, after or end
+        passed = data.rfind(KEY, place, min(place + least, end)) + 1
+        after = passed or data.find(KEY, place, end) + 1
+        if not passed and (after or end) - place > least:
+            yield place, after or end
         place = after
 
 
@@ -120,15 +122,14 @@ def long_events(inputs, most):
 
     What fewer bytes of lines can't show isn't looked at: n lines of b bytes show at most n * b.
     """
-    least, found = (most * SHORTEST / max(1, len(inputs))) ** 0.5, {}
+    least, found = int((most * SHORTEST / max(1, len(inputs))) ** 0.5), {}
     for each in inputs:
         with mapped(each) as data:
-            for begin, end in events_in(data):
-                if end - begin > least:
-                    key, *lines = data[begin:end].splitlines()
-                    with contextlib.suppress(*NO_EVENT):  # which `cadf` refuses
-                        before, shown = found.get(key[len(KEY) - 1:-1], Long(0, (), 0, 0, 0)), shown_of(lines, most)
-                        found[key[len(KEY) - 1:-1]] = Long(*map(operator.add, before, shown))
+            for begin, end in events_in(data, least):
+                key, *lines = data[begin:end].splitlines()
+                with contextlib.suppress(*NO_EVENT):  # which `cadf` refuses
+                    before, shown = found.get(key[len(KEY) - 1:-1], Long(0, (), 0, 0, 0)), shown_of(lines, most)
+                    found[key[len(KEY) - 1:-1]] = Long(*map(operator.add, before, shown))
     return {key: each for key, each in found.items() if each.size > most}
 
 

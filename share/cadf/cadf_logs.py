@@ -79,7 +79,7 @@ def atoms(lines, is_whole=None):
     atom, line, is_short = [], b"", False
     for line in lines:
         if line.startswith(b"["):
-            if is_short and not line.startswith(VALUES):
+            if is_short and line[:3] not in VALUES:
                 continue
             depth, mark, text = PLAIN.raw_decode(line.decode())[0]
             atom[depth - 1:] = [text]
