@@ -1,5 +1,6 @@
 """The index beside a site's windows: what it says beside plain Python over the site's facts, and what a wrong one does."""
 import collections
+import contextlib
 import json
 import os
 import random
@@ -396,3 +397,16 @@ def test_each_write_is_the_last_or_fails(tmp_path, capsys, fault, step):
         if done.returncode == 0 and not done.stderr:
             break
     assert 20 < number < 199
+
+
+def test_numbers_of_texts():
+    """A text keeps its number, also beside others of its hash; one that is too long has none, and an index without further numbers isn't used."""
+    with contextlib.closing(sqlite3.connect(":memory:", isolation_level=None)) as connection:
+        index, long = cadf_index.EventIndex(connection), (3, "x" * (2 ** 12 + 1))
+        first = index.numbers_of("target", {(number // 2, str(number)) for number in range(1200)})
+        assert sorted(first.values()) == list(range(1, 1201))
+        second = index.numbers_of("target", {(0, "0"), (0, "1"), (0, "2"), long})
+        assert second == {(0, "0"): first[0, "0"], (0, "1"): first[0, "1"], (0, "2"): 1201, long: 0}
+        connection.execute("INSERT INTO others_texts VALUES (?, 0, '')", (2 ** 63 - 1,))
+        with pytest.raises(cadf_index.Untrusted):
+            index.numbers_of("others", {(1, "a")})
