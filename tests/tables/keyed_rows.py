@@ -49,9 +49,9 @@ def words_of(said):
     return ["Proof", FAULTS[cause]] if place == "input 3" else [FAULTS[cause], "Key", place.split()[1]]
 
 
-ROWS += [verified(command, files, ["ok", output]) for _, command, files, output in key_rows.WRITTEN if command.startswith("verify")]
+ROWS += [verified(command, files, ["ok", output]) for _, command, files, output in key_rows.WRITTEN if command.startswith("verify --keys")]
 ROWS += [verified(command, files, ["err", *words_of(said)]) for _, command, files, said in key_rows.REFUSED
-         if command.startswith("verify --") and said.partition(": ")[2] in FAULTS]
+         if command.startswith("verify --keys") and said.partition(": ")[2] in FAULTS]
 ROWS += [verified("", [seal(*P[:8]), keys(*OF_P[:8]), keys_proof(OF_P[:8], P[:8])], ["ok", told("present", OF_P[:8])], size) for size in (1, 7, 50)]
 ROWS += [("verified_keys", [LIMIT, 4096, 0, *files, "present"], [word], SAYS) for files, word in (
     (["", "", ""], "no seal"), ([seal(C1), "", ""], "no proof"), ([seal(C1), keys_proof([E1], [C1]), ""], "no keys"))]

@@ -144,7 +144,7 @@ REFUSED = [
     (["prove", "--keys", "--keys", "a", "b"], "the argument '--keys' cannot be used multiple times", "prove [OPTIONS] <FACTS> <FILE>..."),
     (["prove", "--keys=a", "b", "c"], "unexpected value 'a' for '--keys' found; no more were expected", "prove --keys <FACTS> <FILE>..."),
     (["prove", "--absent", "a", "b"], "unexpected argument '--absent' found\n\n  tip: to pass '--absent' as a value, use '-- --absent'",
-     "prove <FACTS> <FILE>..."),
+     "prove [OPTIONS] <FACTS> <FILE>..."),
     (["verify", "a", "b"], "the following required arguments were not provided:\n  <PROOF>", "verify <SEAL> <FACTS> <PROOF>"),
     (["verify", "--absent", "a"], "the following required arguments were not provided:\n  <FACTS>\n  <PROOF>",
      "verify --absent <SEAL> <FACTS> <PROOF>"),
