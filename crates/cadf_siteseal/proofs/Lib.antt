@@ -1,0 +1,6 @@
+mod NameForms
+mod SealedItems
+mod SiteLemmas
+mod TreeItems
+mod Words
+pub mod Common
