@@ -1,5 +1,5 @@
 -- The name of a part has no space and no line feed.
-use Rattle.cadf_siteseal.proofs.Common.{◌≡◌, ◌∙◌, ℕ, List, [], ◌∷◌, length, Bool, true, false, true≢false, refl, sym, ap, subst, arith, ◌==◌, ◌&&◌, ◌||◌, nat_eq, not, codes, list_any, eqb-true, nat_tests, common_steps, bytes_eq-Decides, is_unbroken, Text, is_text, both, and_true, has_blank, TimeUnit, Month, Day, Hour, shared, pattern, fits, all_fit, is_window, is_part}
+use Rattle.cadf_siteseal.proofs.Common.{◌≡◌, ◌∙◌, ℕ, List, [], ◌∷◌, length, Bool, true, false, true≢false, refl, sym, ap, subst, arith, ◌==◌, ◌||◌, nat_eq, not, list_any, eqb-true, nat_tests, common_steps, bytes_eq-Decides, is_unbroken, Text, is_text, both, and_true, has_blank, TimeUnit, Month, Day, Hour, shared, pattern, fits, all_fit, is_window, is_part}
 use Rattle.cadf_siteseal.proofs.Words.{neither_of}
 
 neither : (a b : Bool) → (a || b) ≡ false → (a ≡ false) × (b ≡ false)

@@ -1,10 +1,10 @@
 -- The lines of a site seal's items: each encodes its item, and no other line does.
-use Rattle.cadf_siteseal.proofs.Common.{◌≡◌, ◌∙◌, ℕ, List, [], ◌∷◌, ◌++◌, Bool, true, false, cond, Option, Some, None, refl, sym, ap, subst, nat_eq, unwrap_or, eqb-true, is_unbroken, both_unbroken, Text, first_word, words_after, begins_digest, chosen, has_blank, first_is, after_is, TimeUnit, Root, is_window, is_part, roots_text, roots_in, AreSealed, floor_in, gone_with, held_with, part_with, seal_items, sealed_in, sealed_text, SealedPart, SealItem, Floor, Gone, Held}
+use Rattle.cadf_siteseal.proofs.Common.{◌≡◌, ◌∙◌, ℕ, List, [], ◌∷◌, ◌++◌, Bool, true, false, cond, Option, Some, None, refl, ap, subst, nat_eq, unwrap_or, eqb-true, is_unbroken, both_unbroken, first_word, words_after, begins_digest, chosen, has_blank, first_is, after_is, TimeUnit, Root, is_window, is_part, roots_text, roots_in, AreSealed, floor_in, gone_with, held_with, part_with, seal_items, sealed_in, sealed_text, SealedPart, SealItem, Floor, Gone, Held}
 use Rattle.cadf_siteseal.specs.SealItems.{IsItem, item_in, item_line}
 unfoldable use Rattle.cadf_siteseal.specs.SealItems.{marked_item}
 use Rattle.cadf_siteseal.proofs.NameForms.{part_unblank, part_unbroken, window_unblank, window_unbroken}
 use Rattle.cadf_siteseal.proofs.SiteLemmas.{IsItemKind}
-use Rattle.cadf_siteseal.proofs.Words.{AreRootsOf, roots-again, roots-only, roots_some, roots_unbroken, spaced}
+use Rattle.cadf_siteseal.proofs.Words.{roots-again, roots-only, roots_some, roots_unbroken, spaced}
 
 -- ---- the words of a part
 

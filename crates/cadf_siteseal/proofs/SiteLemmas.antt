@@ -3,7 +3,7 @@
 --     accepts-sites  bytes are accepted if and only if they are the file of a model
 --     sites-tell     models with equal files are equal
 --     item_put, cause_is, first_put   how lines are read one by one
-use Rattle.cadf_siteseal.proofs.Common.{◌≡◌, ◌∙◌, ℕ, List, [], ◌∷◌, ◌++◌, map, Bool, true, false, true≢false, Option, Some, None, refl, sym, ap, subst, append_assoc, append-nil, ◌⊎◌, cond, arith, is_some, unwrap_or, codes, bytes_eq, bytes_eq-Decides, Text, is_name_text, is_unbroken, IsNameText, unbroken_quoted, Cause, Shape, shape_unless, AcceptsModels, IsInjective, begins_digest, log_line, with_digest_line, AreAfter, map_more, and_true, are_unbroken, shape_none, there, Ends, Follows, IsModelKind, Plain, accepts-models, lines_of, models-tell, name_is, unbroken_digest, good_log, TimeUnit, Month, Day, Hour, ItemKind, SiteModel, unit_line, unit_in, unit_of, items_in, state_after, item_cause, line_cause, cause_after, site_lines, site_body, site_model_in, site_kind, AllFollow, IsSite, AreTold, IsPut}
+use Rattle.cadf_siteseal.proofs.Common.{◌≡◌, ◌∙◌, ℕ, List, [], ◌∷◌, ◌++◌, map, Bool, true, false, true≢false, Option, Some, None, refl, sym, ap, subst, append_assoc, append-nil, cond, is_some, unwrap_or, codes, bytes_eq, bytes_eq-Decides, Text, is_name_text, is_unbroken, IsNameText, unbroken_quoted, shape_unless, AcceptsModels, IsInjective, begins_digest, log_line, with_digest_line, AreAfter, map_more, and_true, are_unbroken, shape_none, there, Ends, Follows, IsModelKind, Plain, accepts-models, lines_of, models-tell, name_is, unbroken_digest, good_log, TimeUnit, Month, Day, Hour, ItemKind, SiteModel, unit_line, unit_in, unit_of, items_in, state_after, item_cause, line_cause, cause_after, site_lines, site_body, site_model_in, site_kind, AllFollow, IsSite, AreTold, IsPut}
 use Rattle.cadf_linefile.specs.Verdict.{digest_line}
 
 -- ---- the line of the unit

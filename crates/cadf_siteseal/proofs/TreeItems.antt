@@ -1,5 +1,5 @@
 -- The lines of the items of a proof of growth: each encodes its item, and no other line does.
-use Rattle.cadf_siteseal.proofs.Common.{◌≡◌, ◌∙◌, ◌⊎◌, inl, inr, ℕ, List, [], ◌∷◌, ◌++◌, length, take, drop, Bool, true, false, cond, true≢false, Option, Some, None, refl, sym, ap, subst, arith, drop-append_seam, take-append_seam, eqb-true, common_steps, take-append-drop, bytes_eq-Decides, option_or, ◌&&◌, codes, nat_eq, option_and_then, option_map, unwrap_or, bytes_eq, encode_lower, is_unbroken, digest_of, digest-again, digest-only, unbroken_digest_of, Text, IsDigest, begins_digest, both, chosen, TimeUnit, Both, Added, Part, Node, Hash, Leaf, IsPart, keys_line, node_line, part_line, digest_line, IsItem, growth_items, item_in, item_line, tree_item_in, window_in, is_part, GrowthItem, Window, Tree, Keys}
+use Rattle.cadf_siteseal.proofs.Common.{◌≡◌, ◌∙◌, ◌⊎◌, inl, inr, ℕ, List, [], ◌∷◌, ◌++◌, length, take, drop, Bool, true, false, cond, Option, Some, None, refl, sym, ap, subst, arith, drop-append_seam, take-append_seam, eqb-true, common_steps, take-append-drop, bytes_eq-Decides, option_or, ◌&&◌, codes, nat_eq, option_and_then, option_map, unwrap_or, bytes_eq, encode_lower, is_unbroken, digest_of, digest-again, digest-only, unbroken_digest_of, Text, IsDigest, begins_digest, both, chosen, TimeUnit, Both, Added, Part, Node, Hash, Leaf, IsPart, keys_line, node_line, part_line, digest_line, IsItem, growth_items, item_in, item_line, tree_item_in, window_in, is_part, GrowthItem, Window, Tree, Keys}
 use Rattle.cadf_tree.specs.declared.parts.Kind.TheVariants.{Gone}
 unfoldable use Rattle.cadf_evidence.specs.Marked.{digest_after, rest_after}
 unfoldable use Rattle.cadf_evidence.specs.ProofVerdict.{leaf_in, part_in}

@@ -1,5 +1,5 @@
 -- Words of a line, with a space between them, and the roots that they encode.
-use Rattle.cadf_siteseal.proofs.Common.{◌≡◌, ◌∙◌, ◌<◌, ◌≤◌, ◌+◌, ◌^◌, ℕ, zero, suc, List, [], ◌∷◌, ◌++◌, length, take, Bool, true, false, cond, not, Option, Some, None, refl, sym, ap, subst, arith, inl, inr, ◌⊎◌, ◌==◌, ◌||◌, ◌/◌, ◌%◌, nat_eq, decimal, slice_index, option_and_then, unwrap_or, list_any, position_or_len, common_steps, take_all, encode_lower, lower_digits, Text, IsDigest, is_unbroken, both_unbroken, digest_of, digest-again, digest-only, unbroken_digest_of, number_in, first_word, words_after, has_blank, decimal_unblank, first_is, after_is, cut_cases, number-again, number-only, decimal_unbroken, decimal_nonempty, Root, root_text, roots_text, unless_zero, positive_in, root_with, root_in, both_roots, first_root_in, last_root_in, roots_in, IsSealed}
+use Rattle.cadf_siteseal.proofs.Common.{◌≡◌, ◌∙◌, ◌<◌, ◌+◌, ◌^◌, ℕ, zero, suc, List, [], ◌∷◌, ◌++◌, length, take, Bool, true, false, cond, not, Option, Some, None, refl, sym, ap, subst, arith, inl, inr, ◌==◌, ◌||◌, ◌/◌, ◌%◌, nat_eq, decimal, slice_index, option_and_then, unwrap_or, position_or_len, common_steps, take_all, encode_lower, lower_digits, Text, IsDigest, is_unbroken, both_unbroken, digest_of, digest-again, digest-only, unbroken_digest_of, number_in, first_word, words_after, has_blank, decimal_unblank, first_is, after_is, cut_cases, number-again, number-only, decimal_unbroken, decimal_nonempty, Root, root_text, roots_text, unless_zero, positive_in, root_with, root_in, both_roots, first_root_in, last_root_in, roots_in, IsSealed}
 unfoldable use Rattle.hex.specs.Hex.{encode_with}
 
 -- ---- words

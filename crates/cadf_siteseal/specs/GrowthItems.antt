@@ -5,7 +5,7 @@
 --     growth_items                    the kind of items
 --     IsItem unit i                   an item is as it should be by itself
 --     IsSiteGrowth g                  the invariant of such a proof
-use Rattle.std.specs.Prelude.{◌≡◌, ℕ, zero, suc, List, [], ◌∷◌, ◌++◌, codes, nat_eq, Bool, true, false, ◌&&◌, not, is_some, if◌then◌else◌, Option, Some, None, option_map, refl}
+use Rattle.std.specs.Prelude.{◌≡◌, ℕ, zero, suc, List, [], ◌∷◌, ◌++◌, codes, nat_eq, true, false, ◌&&◌, not, is_some, if◌then◌else◌, Option, Some, None, option_map, refl}
 use Rattle.std.specs.Coded.{Coded, coded_ℕ, coded_list, coded×, code_by}
 use Rattle.std.specs.Option.{option_or}
 use Rattle.std.specs.Str.{bytes_eq}

@@ -2,7 +2,7 @@
 --     roots_text r k   these words, with a space between them
 --     roots_in text    the roots that the words encode
 --     IsSealed r       the invariant of a root of some digests
-use Rattle.std.specs.Prelude.{◌≡◌, ℕ, List, [], ◌∷◌, ◌++◌, nat_eq, decimal, false, if◌then◌else◌, Option, Some, None, option_map, option_and_then}
+use Rattle.std.specs.Prelude.{◌≡◌, ℕ, List, ◌∷◌, ◌++◌, nat_eq, decimal, false, if◌then◌else◌, Option, Some, None, option_and_then}
 use Rattle.hex.specs.Hex.{encode_lower}
 use Rattle.cadf_join.specs.Contents.{Text}
 use Rattle.cadf_inventory.specs.InventoryVerdict.{digest_of}

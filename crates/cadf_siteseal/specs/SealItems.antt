@@ -6,7 +6,7 @@
 --     seal_items                      the kind of items
 --     IsItem unit i                   an item is as it should be by itself
 --     IsSiteSeal s                    the invariant of a site seal
-use Rattle.std.specs.Prelude.{◌≡◌, ℕ, zero, suc, List, [], ◌∷◌, ◌++◌, codes, nat_eq, Bool, true, false, ◌&&◌, not, is_some, if◌then◌else◌, Option, Some, None, option_map, refl}
+use Rattle.std.specs.Prelude.{◌≡◌, ℕ, zero, suc, List, [], ◌∷◌, ◌++◌, codes, nat_eq, Bool, true, false, ◌&&◌, not, is_some, if◌then◌else◌, Option, Some, None, refl}
 use Rattle.std.specs.Coded.{Coded, coded_ℕ, coded_list, coded×, code_by}
 use Rattle.cadf_join.specs.Contents.{Text}
 use Rattle.cadf_linefile.specs.declared.fault.Cause.{Cause}
