@@ -1,4 +1,7 @@
+mod JudgedParts
 mod NameForms
+mod PartProofs
+mod PartsKept
 mod SealedItems
 mod SiteLemmas
 mod TreeItems

@@ -3,4 +3,7 @@ pub mod PartNames
 pub mod Roots
 pub mod SealItems
 pub mod SiteFile
+pub mod SiteGrown
+pub mod SiteLaws
 pub mod SiteLines
+pub mod SiteParts

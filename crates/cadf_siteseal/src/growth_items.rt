@@ -74,7 +74,7 @@ fn part_in(line: &[u8]) -> Option<Part>
 }
 
 /// Makes the line of a digest.
-fn digest_line(alloc: Global, mark: &[u8], digest: &[u8; 32]) -> Result<Vec<u8>, Memory>
+pub(crate) fn digest_line(alloc: Global, mark: &[u8], digest: &[u8; 32]) -> Result<Vec<u8>, Memory>
     ensures { IfOk result (λ line. line.items ≡ digest_line mark.now digest.now) }
 {
     let mut line = Vec::from_slice(alloc, mark)?;

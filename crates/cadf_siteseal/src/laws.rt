@@ -1,11 +1,13 @@
-//! Laws of the files of site seals and of proofs of growth. Each function's contract is a theorem, and its body is empty.
+//! Laws of site seals and of proofs of growth, and of their files. Each function's contract is a theorem, and its body is empty.
 ghost use Rattle.std.specs.Prelude.{◌≡◌, ◌≤◌, ℕ, length, false, Ok};
 ghost use Rattle.cadf_linefile.specs.ModelKind.{AcceptsModels, IsInjective, file_of, verdict_of};
 ghost use Rattle.cadf_siteseal.specs.GrowthItems.{IsSiteGrowth, site_growth_kind};
 ghost use Rattle.cadf_siteseal.specs.SealItems.{IsSiteSeal, site_seal_kind};
+ghost use Rattle.cadf_siteseal.specs.SiteLaws.{PartsStay};
 
 use crate::site_growth::SiteGrowth;
 use crate::site_seal::SiteSeal;
+use cadf_evidence::{equal_seals_are_of_one_set, nothing_goes_unlisted, told_growth_is_so};
 
 /// States that the file of a site seal is injective: site seals with equal files are equal.
 pub fn site_seal_file_is_injective()
@@ -43,4 +45,15 @@ pub fn site_growth_is_read_back(growth: &SiteGrowth)
         → verdict_of site_growth_kind limit false (file_of site_growth_kind growth.now) ≡ Ok growth.now }
 {
     growth.type_invariant();
+}
+
+/// States that if a proof of growth is accepted under the seals of two sites, then each fact and each key of an earlier part is in
+/// the later part of that name or in the list, if what is hashed doesn't collide; and that a part that isn't before the first
+/// window that is kept is held, if the later seal has anything of it.
+pub fn parts_stay()
+    ensures { PartsStay }
+{
+    told_growth_is_so();
+    nothing_goes_unlisted();
+    equal_seals_are_of_one_set();
 }

@@ -5,10 +5,11 @@ ghost use Rattle.cadf_siteseal.specs.PartNames.{pattern, fits, all_fit, has_form
 use cadf_json::Memory;
 use cadf_split::Unit;
 use std::alloc::Global;
+use std::fmt;
 use std::marker::Model;
 
 /// The name of a part: `shared`, or that of a window.
-#[derive(Drop)]
+#[derive(Debug, Drop)]
 pub struct PartName {
     text: Vec<u8>,
 }
@@ -66,6 +67,15 @@ impl PartName {
         match other {
             None => true,
             Some(other) => other.comes_before(self),
+        }
+    }
+}
+
+impl fmt::Display for PartName {
+    fn fmt<W: fmt::Write>(&self, f: &mut fmt::Formatter<W>) -> fmt::Result {
+        match str::from_utf8(self.as_bytes()) {
+            Ok(text) => f.write_str(text),
+            Err(_) => Err(fmt::Error),
         }
     }
 }
