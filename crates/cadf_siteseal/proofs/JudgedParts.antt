@@ -1,5 +1,5 @@
 -- What the proofs of some parts say, one after another.
-use Rattle.cadf_siteseal.proofs.Common.{◌≡◌, ◌∙◌, ◌+◌, ◌<◌, ℕ, List, ◌∷◌, ◌++◌, length, drop, get_or, Option, Result, Ok, Err, refl, sym, ap, append_assoc, drop_more, Text, ListedModel, grown, ProofModel, SealModel, SiteSealModel, both_texts, grown_text, item_text, named, window_text, held_roots, last_roots, own, part_proof, part_seal, GrowthItem, SiteFault}
+use Rattle.cadf_siteseal.proofs.Common.{◌≡◌, ◌∙◌, ◌+◌, ◌<◌, ℕ, List, ◌++◌, length, drop, get_or, Option, Result, Ok, Err, refl, sym, ap, append_assoc, drop_more, Text, ListedModel, grown, ProofModel, SealModel, SiteSealModel, both_texts, grown_text, item_text, named, window_text, held_roots, last_roots, own, part_proof, part_seal, GrowthItem, SiteFault}
 
 pub said : (a b : SiteSealModel) (list : Option ListedModel) (t : Text) (is : List GrowthItem) (log : Text) (old new : SealModel) (p : ProofModel) → log ≡ a.log
     → old ≡ part_seal log (held_roots t a.items) → new ≡ part_seal log (last_roots t b.items) → p ≡ part_proof log (own is)

@@ -1,5 +1,5 @@
 -- The items of a part are those of a proof, and the roots that a seal has are roots.
-use Rattle.cadf_siteseal.proofs.Common.{◌≡◌, ◌∙◌, ℕ, zero, suc, List, [], ◌∷◌, map, drop, Bool, true, false, true≢false, cond, Option, Some, None, not, refl, sym, ap, ◌&&◌, is_some, option_or, Text, is_text, both, shape_none, TimeUnit, Root, AreParts, HasProofParts, keys_line, part_line, proof_lines, growth_items, item_line, next, IsGrowthItem, seal_items, next_seal, IsSealItem, AllFollow, HaveRoots, IsPartProof, first_some, gone_by, gone_roots, held_by, held_roots, last_roots, own, part_proof, roots_if, trees, GrowthItem, Window, Tree, Keys, GrowthState, SealItem, Floor, Gone, Held, SealState, SealedPart}
+use Rattle.cadf_siteseal.proofs.Common.{◌≡◌, ◌∙◌, ℕ, zero, suc, List, [], ◌∷◌, map, drop, Bool, true, false, true≢false, cond, Option, Some, None, not, refl, sym, ap, is_some, option_or, Text, is_text, both, shape_none, TimeUnit, Root, AreParts, keys_line, part_line, growth_items, item_line, next, IsGrowthItem, seal_items, next_seal, IsSealItem, AllFollow, HaveRoots, IsPartProof, gone_roots, held_roots, last_roots, own, roots_if, trees, GrowthItem, Window, Tree, Keys, GrowthState, SealItem, Floor, Gone, Held, SealState, SealedPart}
 
 -- ---- the items of a part
 

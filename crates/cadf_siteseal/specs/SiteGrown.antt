@@ -10,7 +10,7 @@
 --     grown_text a b l is    this of each part with a proof
 --     site_grown a b g k l   that text, or the first fault
 --     SiteFaultIs e found    the fault is the one found, or is `Memory`
-use Rattle.std.specs.Prelude.{◌≡◌, ℕ, List, [], ◌∷◌, ◌++◌, Bool, true, false, ◌&&◌, ◌||◌, not, is_some, if◌then◌else◌, Option, None, Some, option_map, Result, Ok, Err}
+use Rattle.std.specs.Prelude.{◌≡◌, ℕ, List, [], ◌∷◌, ◌++◌, Bool, true, false, ◌&&◌, not, is_some, if◌then◌else◌, Option, None, Some, option_map, Result, Ok, Err}
 use Rattle.std.specs.Option.{option_or}
 use Rattle.cadf_join.specs.Contents.{Text}
 use Rattle.cadf_line.specs.Atoms.{is_text}

@@ -7,7 +7,7 @@
 --     StayApart a b      nor do two that are hashed for the roots of both sets, nor two facts of these
 --     PartsStay          if nothing is refused, each fact and each key of an earlier part is in the later one of that name, or is listed;
 --                        and a part that is not before the first window that is kept is there, if the later seal has anything of it
-use Rattle.std.specs.Prelude.{◌≡◌, ℕ, List, [], ◌∷◌, Bool, false, if◌then◌else◌, Option, Some, Ok}
+use Rattle.std.specs.Prelude.{◌≡◌, ℕ, List, [], ◌∷◌, false, if◌then◌else◌, Option, Some, Ok}
 use Rattle.cadf_join.specs.Contents.{Text}
 use Rattle.cadf_join.specs.Sets as set
 use Rattle.cadf_key.specs.Keys.{keys_of}

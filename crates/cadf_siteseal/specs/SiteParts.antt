@@ -8,7 +8,7 @@
 --     part_proof log is                  the proof that has these items: the parts before the line K, and those after it
 --     HaveRoots o                        the invariant of roots, if there are any
 --     IsPartProof is                     the lines of the items before the next line W are those of such a proof
-use Rattle.std.specs.Prelude.{◌≡◌, ℕ, List, [], ◌∷◌, map, nat_eq, Bool, true, false, ◌&&◌, if◌then◌else◌, Option, None, Some}
+use Rattle.std.specs.Prelude.{◌≡◌, List, [], ◌∷◌, map, nat_eq, Bool, true, false, ◌&&◌, if◌then◌else◌, Option, None, Some}
 use Rattle.std.specs.List.{list_any}
 use Rattle.std.specs.Option.{option_or}
 use Rattle.std.specs.Str.{bytes_eq}

@@ -1,4 +1,4 @@
-use Rattle.cadf_siteseal.proofs.Common.{◌≡◌, ◌∙◌, ◌∷◌, [], ◌++◌, sym, ap, codes, is_name_text, name_is, text_of_lines, log_line, with_digest_line, IsSeal, SealModel, digest_line, number_line, seal_body, seal_file, seal_header, seal_lines}
+use Rattle.cadf_siteseal.proofs.Common.{◌≡◌, ◌∙◌, ◌∷◌, [], ◌++◌, sym, ap, codes, is_name_text, name_is, text_of_lines, log_line, with_digest_line, IsSeal, SealModel, digest_line, number_line, seal_body, seal_header, seal_lines}
 use Rattle.cadf_evidence.specs.SealLines.{told_lines}
 use Rattle.cadf_siteseal.proofs.site_parts.seal_with.Goals as goal
 
