@@ -3,9 +3,9 @@ pub use Rattle.cadf_event.proofs.LogNameLemmas.{both_unbroken, unbroken_quoted}
 pub use Rattle.cadf_event.specs.Known.{IsNameText}
 pub use Rattle.cadf_event.specs.LogName.{is_name_text, is_unbroken}
 pub use Rattle.cadf_evidence.specs.Growth.{grown, is_listed}
-pub use Rattle.cadf_evidence.specs.ProofFile.{AreParts, HasProofParts, IsPart, IsProof, ProofModel, keys_line, node_line, part_line, proof_body, proof_header, proof_lines}
+pub use Rattle.cadf_evidence.specs.ProofFile.{AreParts, HasProofParts, IsPart, IsProof, ProofModel, keys_line, node_line, part_line, proof_body, proof_header}
 pub use Rattle.cadf_evidence.specs.ProofLines.{told_lines}
-pub use Rattle.cadf_evidence.specs.SealFile.{IsSeal, SealModel, digest_line, number_line, seal_body, seal_file, seal_header, seal_lines, seal_of}
+pub use Rattle.cadf_evidence.specs.SealFile.{IsSeal, SealModel, digest_line, number_line, seal_body, seal_header, seal_lines, seal_of}
 pub use Rattle.cadf_evidence.specs.Soundness.{EqualSealsAreOfOneSet, GrowthIsSo, NothingGoesUnlisted, StayOrAreListed}
 pub use Rattle.cadf_evidence.specs.declared.growth.GrowthFault.{GrowthFault}
 pub use Rattle.cadf_evidence.specs.declared.growth.SealedSet.{SealedSet}
@@ -34,15 +34,15 @@ pub use Rattle.cadf_linefile.specs.Numbers.{first_word, number_in, words_after}
 pub use Rattle.cadf_linefile.specs.Verdict.{begins_digest, log_line, with_digest_line}
 pub use Rattle.cadf_listed.specs.ListFile.{ListedModel}
 pub use Rattle.cadf_set.specs.Replica.{ReplicaModel}
-pub use Rattle.cadf_siteseal.specs.GrowthItems.{IsItem as IsGrowthItem, IsItem, IsSiteGrowth, SiteGrowthModel, growth_items, item_in, item_line, next, tree_item_in, window_in}
+pub use Rattle.cadf_siteseal.specs.GrowthItems.{IsItem as IsGrowthItem, IsItem, growth_items, item_in, item_line, next, tree_item_in, window_in}
 pub use Rattle.cadf_siteseal.specs.PartNames.{all_fit, comes_before, fits, is_part, is_window, pattern, shared}
 pub use Rattle.cadf_siteseal.specs.Roots.{IsSealed, both_roots, first_root_in, last_root_in, positive_in, root_in, root_text, root_with, roots_in, roots_text, unless_zero}
 pub use Rattle.cadf_siteseal.specs.SealItems.{AreSealed, IsItem as IsSealItem, IsSiteSeal, SiteSealModel, floor_in, gone_with, held_with, next as next_seal, part_with, seal_items, sealed_in, sealed_text}
 pub use Rattle.cadf_siteseal.specs.SiteFile.{AllFollow, IsSite, ItemKind, SiteModel, cause_after, item_cause, items_in, line_cause, site_body, site_kind, site_lines, site_model_in, state_after, unit_in, unit_line, unit_of}
-pub use Rattle.cadf_siteseal.specs.SiteGrown.{SiteFaultIs, both_texts, earlier_name, first_fault, gone_fault, grown_text, head_fault, input_fault, is_allowed, is_unit, item_text, kept_fault, lacking_fault, lacking_name, least, least_of, name_if, named, needed_fault, shown_fault, site_grown, spare_name, unless_fault, went_name, window_text}
-pub use Rattle.cadf_siteseal.specs.SiteLaws.{AreApart, HasLastRoots, HoldsRoots, IsKept, PartsStay, Sets, StayApart, own_of, proof_of}
+pub use Rattle.cadf_siteseal.specs.SiteGrown.{SiteFaultIs, both_texts, earlier_name, first_fault, gone_fault, grown_text, head_fault, input_fault, is_allowed, is_unit, item_text, kept_fault, lacking_fault, lacking_name, least, least_of, name_if, named, needed_fault, shown_fault, spare_name, unless_fault, went_name, window_text}
+pub use Rattle.cadf_siteseal.specs.SiteLaws.{AreApart, PartsStay, StayApart, own_of}
 pub use Rattle.cadf_siteseal.specs.SiteLines.{AreTold, IsGrowthTold, IsPut, IsSealTold}
-pub use Rattle.cadf_siteseal.specs.SiteParts.{HaveRoots, IsPartProof, first_some, gone_by, gone_roots, has_proof, held_by, held_roots, is_root, is_unchanged, is_window_of, last_roots, own, part_proof, part_seal, roots_if, trees}
+pub use Rattle.cadf_siteseal.specs.SiteParts.{HaveRoots, IsPartProof, first_some, gone_by, gone_roots, has_proof, held_by, held_roots, is_root, is_unchanged, last_roots, own, part_proof, part_seal, roots_if, trees}
 pub use Rattle.cadf_siteseal.specs.declared.growth_items.GrowthItem.{GrowthItem}
 pub use Rattle.cadf_siteseal.specs.declared.growth_items.GrowthItem.TheVariants.{Keys, Tree, Window}
 pub use Rattle.cadf_siteseal.specs.declared.growth_items.GrowthState.{GrowthState}

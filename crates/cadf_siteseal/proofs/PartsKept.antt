@@ -1,4 +1,4 @@
--- What is told of two site seals is so: of each part, by the law of seals.
+-- If a proof of growth is accepted under two site seals, each part stays, or what went is listed.
 use Rattle.cadf_siteseal.proofs.Common.{◌≡◌, ◌∙◌, ℕ, List, [], ◌∷◌, Bool, true, false, true≢false, cond, Option, Some, None, Result, Ok, Err, not, refl, sym, ap, subst, arith, ◌&&◌, ◌||◌, is_some, nat_eq, option_map, unwrap_or, AllByRecursion, option_or, eqb-true, common_steps, bytes_eq-Decides, Text, keys_of, is_text, atom_digest, Digests, digests_of, both, ListedModel, ReplicaModel, TimeUnit, Root, grown, is_listed, HasProofParts, IsProof, seal_of, EqualSealsAreOfOneSet, GrowthIsSo, NothingGoesUnlisted, StayOrAreListed, GrowthFault, SealedSet, Facts, SealedKeys, growth_items, next, IsGrowthItem, comes_before, IsSiteSeal, SiteSealModel, AllFollow, both_texts, earlier_name, first_fault, gone_fault, grown_text, head_fault, input_fault, is_allowed, is_unit, item_text, kept_fault, lacking_fault, lacking_name, least_of, name_if, named, needed_fault, shown_fault, unless_fault, went_name, AreApart, PartsStay, StayApart, own_of, gone_roots, has_proof, held_roots, is_root, is_unchanged, last_roots, own, part_proof, part_seal, GrowthItem, Window, Tree, Keys, GrowthState, SealItem, Floor, Gone, Held, SealedPart, SiteFault}
 use Rattle.cadf_siteseal.specs.declared.site_fault.SiteFault.TheVariants as fault
 use Rattle.cadf_siteseal.proofs.PartProofs.{before_keys}
