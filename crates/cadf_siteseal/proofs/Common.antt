@@ -39,7 +39,7 @@ pub use Rattle.cadf_siteseal.specs.PartNames.{all_fit, comes_before, fits, is_pa
 pub use Rattle.cadf_siteseal.specs.Roots.{IsSealed, both_roots, first_root_in, last_root_in, positive_in, root_in, root_text, root_with, roots_in, roots_text, unless_zero}
 pub use Rattle.cadf_siteseal.specs.SealItems.{AreSealed, IsItem as IsSealItem, IsSiteSeal, SiteSealModel, floor_in, gone_with, held_with, next as next_seal, part_with, seal_items, sealed_in, sealed_text}
 pub use Rattle.cadf_siteseal.specs.SiteFile.{AllFollow, IsSite, ItemKind, SiteModel, cause_after, item_cause, items_in, line_cause, site_body, site_kind, site_lines, site_model_in, state_after, unit_in, unit_line, unit_of}
-pub use Rattle.cadf_siteseal.specs.SiteGrown.{SiteFaultIs, both_texts, earlier_name, first_fault, gone_fault, grown_text, head_fault, input_fault, is_allowed, is_unit, item_text, kept_fault, lacking_fault, lacking_name, least, least_of, name_if, named, needed_fault, shown_fault, spare_name, unless_fault, went_name, window_text}
+pub use Rattle.cadf_siteseal.specs.SiteGrown.{SiteFaultIs, both_texts, earlier_name, first_fault, gone_fault, grown_text, head_fault, input_fault, is_allowed, is_unit, item_text, kept_fault, lacking_fault, lacking_name, least, least_of, name_if, named, needed_fault, new_line, other_lines, shown_fault, spare_name, unless_fault, went_line, went_name, window_text, with_lines}
 pub use Rattle.cadf_siteseal.specs.SiteLaws.{AreApart, PartsStay, StayApart, own_of}
 pub use Rattle.cadf_siteseal.specs.SiteLines.{AreTold, IsGrowthTold, IsPut, IsSealTold}
 pub use Rattle.cadf_siteseal.specs.SiteParts.{HaveRoots, IsPartProof, first_some, gone_by, gone_roots, has_proof, held_by, held_roots, is_root, is_unchanged, last_roots, own, part_proof, part_seal, roots_if, trees}
@@ -66,7 +66,7 @@ pub use Rattle.std.proofs.lemmas.Fmt.{decimal_nonempty}
 pub use Rattle.std.proofs.lemmas.Grind.{common_steps}
 pub use Rattle.std.proofs.lemmas.List.{drop_more, take-append-drop, take_all}
 pub use Rattle.std.proofs.lemmas.Slice.Eq.{bytes_eq-Decides}
-pub use Rattle.std.specs.List.{AllByRecursion, list_any, position_or_len}
+pub use Rattle.std.specs.List.{AllByRecursion, flat_map, list_any, position_or_len}
 pub use Rattle.std.specs.Option.{option_or}
 pub use Rattle.std.specs.Prelude.{IfErr, codes, decimal, is_some, nat_eq, option_and_then, option_map, slice_index, unwrap_or, ◌%◌, ◌&&◌, ◌/◌, ◌==◌, ◌||◌}
 pub use Rattle.std.specs.Str.{bytes_eq}

@@ -1,12 +1,15 @@
 -- If a proof of growth is accepted under two site seals, each part stays, or what went is listed.
-use Rattle.cadf_siteseal.proofs.Common.{◌≡◌, ◌∙◌, ℕ, List, [], ◌∷◌, Bool, true, false, true≢false, cond, Option, Some, None, Result, Ok, Err, not, refl, sym, ap, subst, arith, ◌&&◌, ◌||◌, is_some, nat_eq, option_map, unwrap_or, AllByRecursion, option_or, eqb-true, common_steps, bytes_eq-Decides, Text, keys_of, is_text, atom_digest, Digests, digests_of, both, ListedModel, ReplicaModel, TimeUnit, Root, grown, is_listed, HasProofParts, IsProof, seal_of, EqualSealsAreOfOneSet, GrowthIsSo, NothingGoesUnlisted, StayOrAreListed, GrowthFault, SealedSet, Facts, SealedKeys, growth_items, next, IsGrowthItem, comes_before, IsSiteSeal, SiteSealModel, AllFollow, both_texts, earlier_name, first_fault, gone_fault, grown_text, head_fault, input_fault, is_allowed, is_unit, item_text, kept_fault, lacking_fault, lacking_name, least_of, name_if, named, needed_fault, shown_fault, unless_fault, went_name, AreApart, PartsStay, StayApart, own_of, gone_roots, has_proof, held_roots, is_root, is_unchanged, last_roots, own, part_proof, part_seal, GrowthItem, Window, Tree, Keys, GrowthState, SealItem, Floor, Gone, Held, SealedPart, SiteFault}
+use Rattle.cadf_siteseal.proofs.Common.{◌≡◌, ◌∙◌, ℕ, List, [], ◌∷◌, Bool, true, false, true≢false, cond, Option, Some, None, Result, Ok, Err, not, refl, sym, ap, subst, arith, ◌&&◌, ◌||◌, is_some, nat_eq, option_map, unwrap_or, AllByRecursion, option_or, eqb-true, common_steps, bytes_eq-Decides, Text, keys_of, is_text, atom_digest, Digests, digests_of, both, ListedModel, ReplicaModel, TimeUnit, Root, grown, is_listed, HasProofParts, IsProof, seal_of, EqualSealsAreOfOneSet, GrowthIsSo, NothingGoesUnlisted, StayOrAreListed, GrowthFault, SealedSet, Facts, SealedKeys, growth_items, next, IsGrowthItem, comes_before, IsSiteSeal, SiteSealModel, AllFollow, both_texts, earlier_name, first_fault, gone_fault, grown_text, head_fault, input_fault, is_allowed, is_unit, item_text, kept_fault, lacking_fault, lacking_name, least_of, name_if, named, needed_fault, shown_fault, unless_fault, went_name, AreApart, PartsStay, StayApart, own_of, gone_roots, has_proof, held_roots, is_root, is_unchanged, last_roots, own, part_proof, part_seal, GrowthItem, Window, Tree, Keys, GrowthState, SealItem, Floor, Gone, Held, SealedPart, SiteFault, other_lines, with_lines}
 use Rattle.cadf_siteseal.specs.declared.site_fault.SiteFault.TheVariants as fault
 use Rattle.cadf_siteseal.proofs.PartProofs.{before_keys}
 
 -- ---- what isn't refused
 
-not_refused : (o : Option SiteFault) (r : Result (List ℕ) SiteFault) (text : List ℕ) → unless_fault o r ≡ Ok text → (o ≡ None) × (r ≡ Ok text)
-not_refused o r text e = grind (arith, common_steps)
+not_refused : (o : Option SiteFault) (r : Result (List ℕ) SiteFault) (more text : List ℕ) → unless_fault o (with_lines r more) ≡ Ok text
+    → (o ≡ None) × ((s : List ℕ) × (r ≡ Ok s))
+not_refused None (Ok s) more text e = (refl, (s, refl))
+not_refused None (Err f) more text e = absurd (cc)
+not_refused (Some f) r more text e = absurd (cc)
 
 neither_fault : (o q : Option SiteFault) → option_or o q ≡ None → (o ≡ None) × (q ≡ None)
 neither_fault o q e = grind (arith, common_steps)
@@ -175,8 +178,8 @@ module _ (growth : GrowthIsSo) (stay : NothingGoesUnlisted) (equal : EqualSealsA
   parts_stay a b g k list text olds news is_a is_g old_roots new_roots e n r has apart stay_apart =
       record { facts = kept.0; keys = kept.1; held = here }
     where
-      u : (first_fault a b g k ≡ None) × (grown_text a b list g.items ≡ Ok text)
-      u = not_refused (first_fault a b g k) (grown_text a b list g.items) text e
+      u : (first_fault a b g k ≡ None) × ((s : List ℕ) × (grown_text a b list g.items ≡ Ok s))
+      u = not_refused (first_fault a b g k) (grown_text a b list g.items) (other_lines a b list) text e
 
       h : (head_fault a b g ≡ None) × (option_or (kept_fault a.unit k) (option_or (gone_fault a b k) (needed_fault a b g)) ≡ None)
       h = neither_fault (head_fault a b g) _ u.0
@@ -210,7 +213,7 @@ module _ (growth : GrowthIsSo) (stay : NothingGoesUnlisted) (equal : EqualSealsA
       by true is = same_stay a b list n r (olds n) (news n) has was now stay_apart (roots_same r (last_roots n b.items) is)
       by false is =
           proved_stay a b list n r (olds n) (news n) has was now g.items apart is_a
-          (proved a b list n g.unit growth_items.start g.items text is_g.items u.1 (has_one is))
+          (proved a b list n g.unit growth_items.start g.items u.1.0 is_g.items u.1.1 (has_one is))
 
       kept : TwoStay list (olds n) (news n)
       kept = by (is_unchanged (Some r) (last_roots n b.items)) refl

@@ -8,15 +8,18 @@
 --     shown_fault b l s      the first of both
 --     window_text a b l t is what the proof with these items says of the part of this name
 --     grown_text a b l is    this of each part with a proof
---     site_grown a b g k l   that text, or the first fault
+--     other_lines a b l      the lines of the parts that are new, and of the windows that went
+--     site_grown a b g k l   all that is said, or the first fault
 --     SiteFaultIs e found    the fault is the one found, or is `Memory`
-use Rattle.std.specs.Prelude.{◌≡◌, ℕ, List, [], ◌∷◌, ◌++◌, Bool, true, false, ◌&&◌, not, is_some, if◌then◌else◌, Option, None, Some, option_map, Result, Ok, Err}
+use Rattle.std.specs.Prelude.{◌≡◌, ℕ, List, [], ◌∷◌, ◌++◌, codes, decimal, Bool, true, false, ◌&&◌, not, is_some, if◌then◌else◌, Option, None, Some, option_map, Result, Ok, Err}
+use Rattle.std.specs.List.{flat_map}
 use Rattle.std.specs.Option.{option_or}
 use Rattle.cadf_join.specs.Contents.{Text}
 use Rattle.cadf_line.specs.Atoms.{is_text}
 use Rattle.cadf_listed.specs.ListFile.{ListedModel}
-use Rattle.cadf_evidence.specs.Growth.{grown, GrowthFaultIs}
+use Rattle.cadf_evidence.specs.Growth.{grown, growth_text, GrowthFaultIs}
 use Rattle.cadf_evidence.specs.declared.growth.GrowthFault.{GrowthFault}
+use Rattle.cadf_tree.specs.declared.tree.Root.{Root}
 use Rattle.cadf_split.specs.declared.unit.Unit.{Unit as TimeUnit}
 use Rattle.cadf_split.specs.declared.unit.Unit.TheVariants.{Month, Day, Hour}
 use Rattle.cadf_siteseal.specs.GrowthItems.{SiteGrowthModel}
@@ -141,12 +144,38 @@ abbrev pub grown_text : SiteSealModel → SiteSealModel → Option ListedModel �
 grown_text a b list [] = Ok []
 grown_text a b list (i ∷ is) = both_texts (item_text a b list i is) (grown_text a b list is)
 
+-- ---- parts without a proof
+
+-- of an item of the later seal: the earlier one has nothing of the part
+abbrev pub new_line : List SealItem → Option ListedModel → SealItem → List ℕ
+new_line a list (line.Floor t) = []
+new_line a list (line.Gone p) = []
+new_line a list (line.Held p) =
+    if is_some (last_roots p.name a) then [] else p.name ++ 58 ∷ 32 ∷ growth_text list (record { added = p.facts.count; gone = 0 })
+
+abbrev pub went_text : Text → Option (Root × Root) → List ℕ
+went_text n None = []
+went_text n (Some r) = n ++ (codes ": gone, of " ++ (decimal r.0.count ++ codes " facts\n"))
+
+-- of an item of the earlier seal: the window went
+abbrev pub went_line : List SealItem → SealItem → List ℕ
+went_line b (line.Floor t) = []
+went_line b (line.Gone p) = []
+went_line b (line.Held p) = if is_some (held_roots p.name b) then [] else went_text p.name (gone_roots p.name b)
+
+abbrev pub other_lines : SiteSealModel → SiteSealModel → Option ListedModel → List ℕ
+other_lines a b list = flat_map (new_line a.items list) b.items ++ flat_map (went_line b.items) a.items
+
+abbrev pub with_lines : Result (List ℕ) SiteFault → List ℕ → Result (List ℕ) SiteFault
+with_lines (Ok t) more = Ok (t ++ more)
+with_lines (Err e) more = Err e
+
 abbrev pub unless_fault : Option SiteFault → Result (List ℕ) SiteFault → Result (List ℕ) SiteFault
 unless_fault None r = r
 unless_fault (Some e) r = Err e
 
 abbrev pub site_grown : SiteSealModel → SiteSealModel → SiteGrowthModel → Option Text → Option ListedModel → Result (List ℕ) SiteFault
-site_grown a b g k list = unless_fault (first_fault a b g k) (grown_text a b list g.items)
+site_grown a b g k list = unless_fault (first_fault a b g k) (with_lines (grown_text a b list g.items) (other_lines a b list))
 
 abbrev pub SiteFaultIs : SiteFault → Result (List ℕ) SiteFault → Type 0
 SiteFaultIs Memory found = Unit {0}

@@ -1,7 +1,9 @@
 //! How a sealed site came of an earlier one, to a reader with both seals and a proof.
-ghost use Rattle.std.specs.Prelude.{◌≡◌, ◌++◌, ◌∷◌, ◌+◌, [], Ok, IfOk, IfErr, drop, get_or, option_map};
+ghost use Rattle.std.specs.Prelude.{◌≡◌, ◌++◌, ◌∷◌, Ok, IfOk, IfErr, OnOk, drop, option_map};
+ghost use Rattle.std.specs.List.{flat_map};
+ghost use Rattle.cadf_evidence.specs.Growth.{growth_text};
 ghost use Rattle.cadf_event.specs.Known.{IsNameText};
-ghost use Rattle.cadf_siteseal.specs.SiteGrown.{is_unit, input_fault, head_fault, kept_fault, earlier_name, least, is_allowed, name_if, went_name, lacking_name, spare_name, lacking_fault, shown_fault, gone_fault, needed_fault, first_fault, window_text, item_text, grown_text, site_grown, SiteFaultIs};
+ghost use Rattle.cadf_siteseal.specs.SiteGrown.{is_unit, input_fault, head_fault, kept_fault, earlier_name, least, is_allowed, name_if, went_name, lacking_name, spare_name, lacking_fault, shown_fault, gone_fault, needed_fault, first_fault, window_text, item_text, grown_text, new_line, went_text, went_line, site_grown, SiteFaultIs};
 ghost use Rattle.cadf_siteseal.specs.SiteParts.{IsPartProof};
 
 use crate::growth_items::GrowthItem;
@@ -18,6 +20,7 @@ use cadf_evidence::grown;
 use cadf_json::Memory;
 use cadf_listed::{Erased, Listed};
 use cadf_split::Unit;
+use cadf_tree::Root;
 use std::alloc::Global;
 
 // ---- one log, and one unit
@@ -384,10 +387,102 @@ fn grown_text(
     Ok(text)
 }
 
+// ---- parts without a proof
+
+/// Makes the line of a part of which the earlier seal has nothing. Empty for any other item of the later seal.
+fn new_line(
+    alloc: Global,
+    old: &[SealItem],
+    list: Option<&Listed<Erased>>,
+    item: &SealItem,
+) -> Result<Vec<u8>, Memory>
+    ensures { IfOk result (λ line. line.items ≡ new_line old.now (option_map (λ l. l.now) list.entry) item.now) }
+{
+    match item {
+        SealItem::Held(part) if last_roots(&part.name, old).is_none() => {
+            let text = added_text(alloc, list, part.facts.count)?;
+            named_line(alloc, &part.name, text.as_slice())
+        }
+        _ => Ok(Vec::new(alloc)),
+    }
+}
+
+/// Makes the text that so many facts were added, and, with a list, that none was erased.
+fn added_text(alloc: Global, list: Option<&Listed<Erased>>, added: u64) -> Result<Vec<u8>, Memory>
+    ensures { IfOk result (λ text. text.items ≡ growth_text (option_map (λ l. l.now) list.entry) (record { added = added; gone = 0 })) }
+{
+    let gone = 0u64;
+    let text = match list {
+        None => format!(in alloc; "added {added}\n")?,
+        Some(_) => format!(in alloc; "added {added}, erased {gone}\n")?,
+    };
+    Ok(text.into_bytes())
+}
+
+/// Makes the line of a window that went, of so many facts. Empty if there are no roots.
+fn went_text(alloc: Global, name: &PartName, roots: Option<(Root, Root)>) -> Result<Vec<u8>, Memory>
+    ensures { IfOk result (λ text. text.items ≡ went_text name.now roots) }
+{
+    let mut text = Vec::new(alloc);
+    if let Some((facts, _)) = roots {
+        text.extend_from_slice(name.as_bytes())?;
+        text.extend_from_slice(b": gone, of ")?;
+        text.extend_from_slice(itoa::Buffer::new().format(facts.count).as_bytes())?;
+        text.extend_from_slice(b" facts\n")?;
+    }
+    Ok(text)
+}
+
+/// Makes the line of a window that went. Empty for any other item of the earlier seal.
+fn went_line(alloc: Global, new: &[SealItem], item: &SealItem) -> Result<Vec<u8>, Memory>
+    ensures { IfOk result (λ line. line.items ≡ went_line new.now item.now) }
+{
+    match item {
+        SealItem::Held(part) if held_roots(&part.name, new).is_none() => {
+            went_text(alloc, &part.name, gone_roots(&part.name, new))
+        }
+        _ => Ok(Vec::new(alloc)),
+    }
+}
+
+/// Appends the lines of the parts of which the earlier seal has nothing.
+fn push_new(
+    alloc: Global,
+    text: &mut Vec<u8>,
+    old: &[SealItem],
+    new: &[SealItem],
+    list: Option<&Listed<Erased>>,
+) -> Result<(), Memory>
+    ensures { OnOk result (text.new.items ≡ text.old.items ++ flat_map (new_line old.now (option_map (λ l. l.now) list.entry)) new.now) }
+{
+    for item in new {
+        let line = new_line(alloc, old, list, item)?;
+        text.extend_from_slice(line.as_slice())?;
+    }
+    Ok(())
+}
+
+/// Appends the lines of the windows that went.
+fn push_went(
+    alloc: Global,
+    text: &mut Vec<u8>,
+    old: &[SealItem],
+    new: &[SealItem],
+) -> Result<(), Memory>
+    ensures { OnOk result (text.new.items ≡ text.old.items ++ flat_map (went_line new.now) old.now) }
+{
+    for item in old {
+        let line = went_line(alloc, new, item)?;
+        text.extend_from_slice(line.as_slice())?;
+    }
+    Ok(())
+}
+
 /// Judges, by a proof under two site seals, how the later site came of the earlier one: that no part is gone, but windows
 /// before the first one that is kept, which went as they were sealed; that each part that changed has a proof, and no other;
-/// and each proof, under both seals of its part; with a list, of what was erased. Returns a line of text for each proof: the
-/// part's name, and what was added. `Err`: the first fault. The time grows with the square of the numbers of parts.
+/// and each proof, under both seals of its part; with a list, of what was erased. Returns a line of text for each proof, for each
+/// part that is new, and for each window that went: its name, and how many facts. `Err`: the first fault. The time grows with
+/// the square of the numbers of parts.
 pub fn site_grown(
     alloc: Global,
     earlier: &SiteSeal,
@@ -402,5 +497,8 @@ pub fn site_grown(
     if let Some(fault) = first_fault(alloc, earlier, later, growth, kept)? {
         return Err(fault);
     }
-    grown_text(alloc, earlier, later, growth, list)
+    let mut text = grown_text(alloc, earlier, later, growth, list)?;
+    push_new(alloc, &mut text, earlier.items(), later.items(), list)?;
+    push_went(alloc, &mut text, earlier.items(), later.items())?;
+    Ok(text)
 }

@@ -26,8 +26,8 @@ impl Model for PartName {
 }
 
 impl PartName {
-    /// Makes the name of a text. `Memory` if an allocation fails.
-    pub(crate) fn of(alloc: Global, text: &[u8]) -> Result<PartName, Memory>
+    /// Makes the name of a text, which isn't judged. `Memory` if an allocation fails.
+    pub fn of(alloc: Global, text: &[u8]) -> Result<PartName, Memory>
         ensures { IfOk result (λ n. n ≡ text.now) }
     {
         Ok(PartName {
