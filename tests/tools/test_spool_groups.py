@@ -25,7 +25,8 @@ def groups(program, folder, sizes):
     run = types.SimpleNamespace(prepared=lambda _, name: [name], take=lambda group: taken.append(len(group)), reached=lambda _: None, may_be_dear=lambda _: False,
                                 left=None, say_left=lambda *_: None)
     with program.open_descriptor(os.open(folder, os.O_RDONLY)) as taking:
-        run.spool = types.SimpleNamespace(claimed=lambda: names, user=lambda _: 0, taking=taking)
+        run.spool = types.SimpleNamespace(user=lambda _: 0, taking=taking)
+        run.turns = lambda: names
         program.Run.take_all(run)
     return taken
 
