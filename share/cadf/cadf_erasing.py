@@ -12,13 +12,14 @@ import hashlib
 import json
 import tempfile
 
-from cadf_erased import name_of_key, names_of
+from cadf_erased import MOST_AT_ONCE, name_of_key, names_of
 from cadf_keys import NODES, contents, keys_in
 from cadf_rulings import PREFIX, record_of
 from cadf_seals import NOTHING, kept_roots, sealed
 from cadf_site import SHARED, WORKING, file_name, made_of_parts, nothing_of, order
-from cadf_toolkit import Fault, Input, as_input, last_digest, with_digest
+from cadf_toolkit import Fault, Input, as_input, grouped, last_digest, with_digest
 
+AT_ONCE = 200  # files of which the names are found at once
 RECORD = b'"' + PREFIX.encode()
 BODY = b"[3,"  # with which the line of an event's body begins
 
@@ -61,45 +62,47 @@ class Went(collections.namedtuple("Went", "parts names")):
 
 def left_out(found, listed, marked):
     """Writes files of a locked folder anew, without what a list leaves out, for `site` to name. Says what went: a Went."""
-    names, before = set(), {}
-    entries = [(SHARED, digest) for digest in found.index.digests(SHARED)] + sorted(marked)
+    names, before, lines = set(), {}, []
     with listed.opened() as opened:
-        for part, digest in entries:
-            gone = written_anew(found, opened, part, digest, marked.get((part, digest)))
-            if gone:
+        for part, digest in [(SHARED, digest) for digest in found.index.digests(SHARED)] + sorted(marked):
+            gone = written_anew(found, opened, part, digest)
+            if gone is not None:
                 names |= gone
+                lines += [b"".join(marked[part, digest].values())] if part != SHARED else []
                 before[part] = None
+    names |= names_in(found.index.log, lines)
     roots = kept_roots(found.folder, list(before))
     return Went({part: (roots[part].roots, str(sealed_now(found, part))) for part in sorted(before, key=order)}, names)
 
 
-def written_anew(found, listed, part, digest, keys):
-    """Writes a file anew without what an open list leaves out. Returns the names of the facts and the keys that went; none if nothing does."""
+def written_anew(found, listed, part, digest):
+    """Writes a file anew without what an open list leaves out. Returns the names of what went, if it is of `shared`; None if nothing did."""
     with found.files(part, [digest]) as (own,):
         with found.new_file() as output:
             found.cadf(["omit"], [listed, own], output.fileno())
-        with found.folder.input(WORKING).file as file:
-            new = last_digest(file)
-            went = set() if new == digest else gone_of(found, own, Input(own.name, file), keys)
-    if new in (digest, nothing_of(found.index.log)):
+        with found.folder.input(WORKING).file as file, tempfile.TemporaryFile() as gone:
+            new, went = last_digest(file), set()
+            if new != digest and part == SHARED:
+                found.cadf(["missing"], [own, Input(own.name, file)], gone.fileno())
+                went = names_of([Input(own.name, gone)])
+    left = [] if new == nothing_of(found.index.log) else [new]
+    if new == digest or not left:
         found.is_removed(WORKING)
     else:
         found.name(file_name(part, new))
-    if new != digest:
-        left = [new] if new != nothing_of(found.index.log) else []
-        found.changed[part] = [each for each in found.digests(part) if each not in (digest, new)] + left
+    if new == digest:
+        return None
+    found.changed[part] = [each for each in found.digests(part) if each not in (digest, new)] + left
     return went
 
 
-def gone_of(found, own, left, keys):
-    """The names of the facts and the keys that a file has and what is left of it hasn't: of a window those of its lines of keys."""
-    with contextlib.ExitStack() as steps:
-        if keys is None:
-            file = steps.enter_context(tempfile.TemporaryFile())
-            found.cadf(["missing"], [own, left], file.fileno())
-            return names_of([Input(own.name, file)])
-        lines = b"CADF-REPLICA 2\nL %s\n%s%s" % (found.index.log.encode(), NODES[1:], b"".join(keys.values()))
-        return names_of([steps.enter_context(as_input(with_digest(lines), own.name))])
+def names_in(log, lines):
+    """The names of the facts and the keys in lines of windows, each all that a file has of some keys."""
+    names = set()
+    for group in grouped(lines, len, MOST_AT_ONCE, AT_ONCE):
+        with contextlib.ExitStack() as files:
+            names |= names_of([files.enter_context(as_input(with_digest(b"CADF-REPLICA 2\nL %s\n%s%s" % (log.encode(), NODES[1:], each)), "what went")) for each in group])
+    return names
 
 
 def sealed_now(found, part):
