@@ -538,6 +538,13 @@ class EventIndex:
             others = [each for each, in self.run("SELECT DISTINCT files FROM kept WHERE kind <> ?", (REFUSED_SIGNATURES,)) if each not in wanted]
             self.connection.executemany("DELETE FROM kept WHERE files = ?", ((each,) for each in others))
 
+    def forget_kinds(self, begin, but, most):
+        """Forgets all that is kept under kinds that begin so, but for that one, if they are more than so many: each list that a peer tells has its own."""
+        with self.changing():
+            kinds = [kind for kind, in self.run("SELECT DISTINCT kind FROM kept") if kind.startswith(begin) and kind != but]
+            if len(kinds) >= most:
+                self.connection.executemany("DELETE FROM kept WHERE kind = ?", ((kind,) for kind in kinds))
+
     def forget(self, keys, but):
         """Forgets what is kept of these files, but for that kind."""
         with self.changing():

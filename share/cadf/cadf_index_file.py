@@ -179,6 +179,12 @@ def keep_refused_signatures(folder, keys, most):
     made_by(folder, lambda index, _: index.add(REFUSED_SIGNATURES, keys, most))
 
 
+def forget_kinds(folder, *words):
+    """Forgets what the index beside an open folder keeps under kinds, as EventIndex.forget_kinds has it."""
+    if is_there(folder):
+        made_by(folder, lambda index, mode: mode == "rw" and index.forget_kinds(*words), [beside])
+
+
 def carry_over(folder, before, after):
     """Has the index beside an open folder keep, of parts whose files were joined, what it has of those before: by part their digests, then and now."""
     joined = [part for part, files in after.items() if part in before and files != before[part]]

@@ -19,7 +19,7 @@ import cadf_erased
 import cadf_gone
 import cadf_site
 from cadf_index import files_of, size_of
-from cadf_index_file import beside, keep, kept
+from cadf_index_file import beside, forget_kinds, keep, kept
 from cadf_link import ENOUGH, Item, Store
 from cadf_logs import UNREADABLE, atoms
 from cadf_toolkit import (DIFFERS, LAST, LAST_LINE, MEMORY, Fault, Input, Refusal, another_program, cadf, check_end, is_costly, last_digest, naming, opened_file,
@@ -28,6 +28,7 @@ from cadf_toolkit import (DIFFERS, LAST, LAST_LINE, MEMORY, Fault, Input, Refusa
 ALL, SHARED = "all", cadf_site.SHARED
 UNITS = {length: unit for unit, length in cadf_site.UNITS.items()}
 UNIONS = "union 1"  # the kind under which the index keeps them
+WITHOUT, MOST_LISTS = "without ", 8  # how the kinds begin under which it keeps what is left without a list, and for how many lists
 DIGEST_BYTES, CELL_BYTES = 65, 81  # of a line
 NODE = re.compile(rb"\[([1-9][0-9]*),([01]),")
 BLOCK = 2 ** 16  # bytes that are read at once
@@ -223,7 +224,7 @@ class WithoutErased:
 
     def digests(self, unit, is_wanted):
         """The digest of what is left of each part that is wanted, if something is. The folder's index keeps them by the list."""
-        kind, new, parts = "without " + self.listed.digits(), {}, self.folder.site().parts() if self.folder else {}
+        kind, new, parts = WITHOUT + self.listed.digits(), {}, self.folder.site().parts() if self.folder else {}
         known, found = kept(self.folder, kind, [beside]) if self.folder else {}, {}
         for part, digest in self.windows.digests(unit, is_wanted).items():
             key = files_of(parts.get(part, ()))
@@ -240,8 +241,9 @@ class WithoutErased:
             self.counts[part] = int(count)
             if left != cadf_site.nothing_of(self.erased().log):
                 found[part] = left
-        if self.folder:
+        if self.folder and new:
             keep(self.folder, kind, new, [beside])
+            forget_kinds(self.folder, WITHOUT, kind, MOST_LISTS)
         return found
 
     @contextlib.contextmanager

@@ -502,7 +502,7 @@ def test_a_kill_anywhere(place):
 # ---- Wrong versions
 
 WRONG = {
-    "a ruling of an erased key stays": (a_person_goes, ["entries = [(SHARED, digest) for digest in found.index.digests(SHARED)] + sorted(marked)", "entries = sorted(marked)"]),
+    "a ruling of an erased key stays": (a_person_goes, ["in [(SHARED, digest) for digest in found.index.digests(SHARED)] + sorted(marked):", "in sorted(marked):"]),
     "records of its rulings stay": (a_person_goes, ["or any(name in listed.names for name in keys_recorded(log, key, lines))", ""]),
     "a letter left out of the key's digest": (a_person_goes, ['return digest_name(b"K ", letter, key)', 'return digest_name(b"K ", key)']),
     "the index has it still": (index_has_nothing, ["if own.get(part) != files})", "if part not in own})"]),

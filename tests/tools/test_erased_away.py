@@ -3,6 +3,7 @@ import json
 import os
 import random
 import shutil
+import sqlite3
 
 import pytest
 
@@ -155,6 +156,29 @@ def test_a_wrong_list(place, data):
     before = place.lines()
     done = place.run("cadf-sync", "--adopt-erasures", "--rsh", str(place.path / "far"), "site", "host:there", status=1)
     assert b"the list of what host:there erased: " in done.error and place.lines() == before
+
+
+def test_a_list_that_is_too_long(place):
+    """It is refused before it is read, whatever the limit of messages."""
+    place.site(1, name="north")
+    place.run("cadf-take", "--by", "day", "south", "first.json")
+    place.run("cadf-erase", "north", "e1")
+    short = Place(place.cadf, place.path, copied(str(place.path / "copy"), "MOST_LIST = 2 ** 26", "MOST_LIST = 150"))
+    done = short.run("cadf-sync", "south", "north", status=1)
+    assert b"the list of what north erased: more than 150 bytes" in done.error and place.atoms("south") == atoms_of(*events(1))
+
+
+def test_lists_without_end(place):
+    """The index keeps what is left for a few lists, whatever peers tell."""
+    place.site(1, 2, name="north")
+    place.run("cadf-take", "--by", "day", "south", "first.json")
+    for number in range(10):
+        place.run("cadf-erase", "south", "x%d" % number)
+        place.run("cadf-sync", "--quiet", "north", "south")
+    index = sqlite3.connect(place.path / "north" / ".index")
+    kinds = [kind for kind, in index.execute("SELECT DISTINCT kind FROM kept") if kind.startswith("without ")]
+    assert 0 < len(kinds) <= 8
+    index.close()
 
 
 # ---- Many exchanges
