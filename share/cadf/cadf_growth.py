@@ -229,7 +229,7 @@ def growth_shown(old, new, proof, listed=None, first=None):
     changed = changed_parts(then, now)
     check_shown(changed, now, found, proof.name)
     came = went = 0
-    for part in sorted({*then.parts, *now.parts} - then.gone.keys(), key=order):
+    for part in sorted({*then.parts, *(now.parts.keys() - then.gone.keys())}, key=order):
         if part in changed:
             more, fewer = growth_of_part(part, then, now, found, listed, [each.name for each in (old, new, proof)])
         else:

@@ -235,6 +235,16 @@ def test_a_window_that_went(growths):
 
 # ---- What liars try
 
+def test_a_window_that_is_sealed_as_gone_too(growths):
+    """A site may write both lines of a window: the proof of what it had is judged all the same."""
+    proof = lost(growths, contents(2, name="n"))
+    growths.put("old", site_seal_of("g", atoms_of(EARLIER), "day", "2024-03-01", parts_of(atoms_of(EARLIER), "day")["2024-02-29"]))
+    gone = min(leaf.hex() for leaf in leaves_of(parts_of(atoms_of(EARLIER), "day")["2024-02-29"]))
+    for lie in proof, with_digest((GROWTH_HEAD + "W 2024-02-29\nK\n").encode()):
+        assert growths.says(lie)[:2] == (1, b"") and wanted(growths.path, lie).startswith("2024-02-29: input ")
+    assert growths.says(proof)[2] == ["cadf-seal: 2024-02-29 of new: facts: gone: %s: %s" % (gone, GONE)]
+
+
 def test_a_proof_in_part(growths):
     """A window whose line changed is shown, and no other; one in another's place shows nothing."""
     proof = growths.grows(MORE, NEW).decode()
@@ -320,6 +330,7 @@ def test_page():
     (test_a_window_that_is_gone, "if part not in proof.parts and part not in now.parts and part not in now.gone:", "if False:"),
     (test_a_window_that_went, "and (first is None or part >= first):", "and first is None:"),
     (test_a_window_that_went, "    check_gone(then, now, first, new.name)\n", ""),
+    (test_a_window_that_is_sealed_as_gone_too, "{*then.parts, *(now.parts.keys() - then.gone.keys())}", "{*then.parts, *now.parts} - then.gone.keys()"),
     (test_a_proof_in_part, "    check_shown(changed, now, found, proof.name)\n", ""),
     (test_others, "    check_same(then, found, proof.name)\n", ""),
     (test_others, "    check_same(then, now, new.name)\n", ""),
