@@ -152,17 +152,19 @@ CALL(lists, cadf_inventory(&b_log, OUT))
 CALL(lists_cut, cadf_inventory(&cut, OUT))
 CALL(seals, cadf_seal(&b_log, OUT))
 CALL(seals_cut, cadf_seal(&cut, OUT))
-CALL(proves_nothing, cadf_prove(&a_log, NULL, 0, OUT))
-CALL(proves_no_facts, cadf_prove(NULL, &b_log, 1, OUT))
-CALL(verifies, cadf_verify(false, &b_seal, &b_log, &b_proof, OUT))
-CALL(verifies_absent, cadf_verify(true, &b_seal, &a_log, &b_proof, OUT))
-CALL(verifies_but_absent, cadf_verify(false, &b_seal, &a_log, &b_proof, OUT))
-CALL(verifies_but_present, cadf_verify(true, &b_seal, &b_log, &b_proof, OUT))
-CALL(verifies_other_count, cadf_verify(false, &b_seal, &b_log, &both_proof, OUT))
-CALL(verifies_other, cadf_verify(false, &b_seal, &other_log, &b_proof, OUT))
-CALL(verifies_cut, cadf_verify(false, &cut, NULL, NULL, OUT))
-CALL(verifies_no_facts, cadf_verify(false, &b_seal, NULL, &b_proof, OUT))
-CALL(verifies_no_proof, cadf_verify(false, &b_seal, &b_log, NULL, OUT))
+CALL(proves_nothing, cadf_prove(false, &a_log, NULL, 0, OUT))
+CALL(proves_no_facts, cadf_prove(false, NULL, &b_log, 1, OUT))
+CALL(verifies, cadf_verify(false, false, &b_seal, &b_log, &b_proof, OUT))
+CALL(verifies_absent, cadf_verify(false, true, &b_seal, &a_log, &b_proof, OUT))
+CALL(verifies_but_absent, cadf_verify(false, false, &b_seal, &a_log, &b_proof, OUT))
+CALL(verifies_but_present, cadf_verify(false, true, &b_seal, &b_log, &b_proof, OUT))
+CALL(verifies_other_count, cadf_verify(false, false, &b_seal, &b_log, &both_proof, OUT))
+CALL(verifies_other, cadf_verify(false, false, &b_seal, &other_log, &b_proof, OUT))
+CALL(verifies_cut, cadf_verify(false, false, &cut, NULL, NULL, OUT))
+CALL(verifies_no_facts, cadf_verify(false, false, &b_seal, NULL, &b_proof, OUT))
+CALL(verifies_no_proof, cadf_verify(false, false, &b_seal, &b_log, NULL, OUT))
+CALL(proves_no_keys, cadf_prove(true, &b_log, &b_log, 1, OUT))
+CALL(verifies_no_keys, cadf_verify(true, false, &b_seal, &b_log, &b_proof, OUT))
 CALL(rules, cadf_rule('P', &key, 1, &both, OUT))
 CALL(rules_no_value, cadf_rule('P', &key, 9, &both, OUT))
 CALL(rules_no_letter, cadf_rule('X', &control, 0, &cut, OUT))
@@ -216,7 +218,7 @@ CALL(splits_nothing, cadf_split(&day, NULL, 0, NULL, OUT))
 static int proved(const struct cadf_bytes *facts, const struct cadf_bytes *first, uint8_t *output, size_t room, size_t *length)
 {
     const struct cadf_bytes inputs[] = {*first, b_log};
-    return cadf_prove(facts, inputs, sizeof inputs / sizeof *inputs, output, room, length);
+    return cadf_prove(false, facts, inputs, sizeof inputs / sizeof *inputs, output, room, length);
 }
 
 CALL(proves, proved(&a_log, &a_log, OUT))
@@ -275,6 +277,8 @@ static const struct expected rows[] = {
     ROW(verifies_cut, 1, "input 1: truncated"),
     ROW(verifies_no_facts, 1, "input 2: not JSON"),
     ROW(verifies_no_proof, 1, "input 3: truncated"),
+    ROW(proves_no_keys, 1, "input 1: truncated"),
+    ROW(verifies_no_keys, 1, "input 2: truncated"),
     ROW(rules, 0, RULED_FILE),
     ROW(rules_no_value, 1, "no such value"),
     ROW(rules_no_letter, 2, "letter"),

@@ -20,11 +20,11 @@ int main(int count, char **words)
         return CADF_ARGUMENT_REFUSED;
     struct cadf_bytes seal = contents(words[1]), facts = contents(words[2]), proof = contents(words[3]);
     size_t length;
-    int status = cadf_verify(false, &seal, &facts, &proof, NULL, 0, &length); /* how much room */
+    int status = cadf_verify(false, false, &seal, &facts, &proof, NULL, 0, &length); /* how much room */
     uint8_t *lines = malloc(length);
     if (!lines)
         return CADF_OUT_OF_MEMORY;
-    status = cadf_verify(false, &seal, &facts, &proof, lines, length, &length);
+    status = cadf_verify(false, false, &seal, &facts, &proof, lines, length, &length);
     fwrite(lines, 1, length, status ? stderr : stdout); /* a line for each fact, or what isn't shown */
     return status;
 }

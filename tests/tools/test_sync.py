@@ -263,7 +263,7 @@ def test_conflicts_and_metrics(sites):
     answer = sites.sync("--conflicts", "--metrics=m.prom", "here.cadf", "there.cadf")
     assert answer.status == 5 and answer.output.endswith(b"; 1 open conflicts\n"), answer
     assert numbers(sites.path / "m.prom", '{tool="cadf-sync",site="here.cadf",peer="there.cadf"}') == {
-        "facts_taken_total": 2, "facts_lacked_by_peer": 5, "windows_not_kept_by_peer": 0, "open_conflicts": 1, "largest_window_bytes": len(file_of("g", facts(1, 2) | other))}
+        "facts_taken_total": 2, "facts_lacked_by_peer": 5, "windows_not_kept_by_peer": 0, "facts_erased_by_peer": 0, "open_conflicts": 1, "largest_window_bytes": len(file_of("g", facts(1, 2) | other))}
     text = (sites.path / "m.prom").read_text()
     assert sites.sync("--metrics=m.prom", "here.cadf", "none/none.cadf").status != 0
     assert (sites.path / "m.prom").read_text() == text and sorted(os.listdir(sites.path)) == sorted(
