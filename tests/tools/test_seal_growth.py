@@ -305,7 +305,7 @@ def test_order_and_ends(growths):
 
 
 @pytest.mark.parametrize("words, said", [
-    ("--keep file", "--keep is for a folder"), ("--grew old new", "OLD, NEW and PROOF"), ("--erased list site", "--erased is for --grew"), ("--new x site", "--new is for --growth"),
+    ("--keep file", "--keep is for a folder"), ("--grew old new", "OLD, NEW and PROOF"), ("--erased list site", "--erased is for --compare and --grew"), ("--new x site", "--new is for --growth"),
     ("--kept-from 2024-03-01 site", "--kept-from is for --compare and --grew"), ("--grew --kept-from x a b c", "--kept-from names a month"), ("--keep --grew old new proof", "go with a SITE"), ("--drop new --full site", "go with a SITE"), ("--growth old --grew a b c", "not allowed with")])
 def test_words(growths, words, said):
     status, output, error = growths.run(*words.split())
