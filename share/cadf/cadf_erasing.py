@@ -36,7 +36,10 @@ def keys_recorded(log, key, lines):
 
 
 def marked_files(found, listed, jobs):
-    """The files of windows of a locked folder that have keys of a list, or records of rulings on such keys: by part and digest the lines of each key, by its text."""
+    """The files of windows of a locked folder that have keys of a list, or records of rulings on such keys.
+
+    By part and digest they have the lines of each such key, by its text.
+    """
     wanted, log = {bytes.fromhex(name[2:].decode()) for name in listed.keys()}, found.index.name()
 
     def is_marked(key, lines):
@@ -101,7 +104,8 @@ def names_in(log, lines):
     names = set()
     for group in grouped(lines, len, MOST_AT_ONCE, AT_ONCE):
         with contextlib.ExitStack() as files:
-            names |= names_of([files.enter_context(as_input(with_digest(b"CADF-REPLICA 2\nL %s\n%s%s" % (log.encode(), NODES[1:], each)), "what went")) for each in group])
+            data = [with_digest(b"CADF-REPLICA 2\nL %s\n%s%s" % (log.encode(), NODES[1:], each)) for each in group]
+            names |= names_of([files.enter_context(as_input(each, "what went")) for each in data])
     return names
 
 
