@@ -1227,7 +1227,7 @@ def test_metrics_of_folders(folders):
     for there in (4, 0):
         folders.equal("--metrics=m.prom", "here/", "there/", tells=tells)
         assert numbers(folders.path / "m.prom", '{tool="cadf-sync",site="here/",peer="there/"}') == {
-            "facts_taken_total": 5, "facts_lacked_by_peer": there, "windows_not_kept_by_peer": 0, "open_conflicts": 2, "unseen_rulings": 1, "largest_window_bytes": largest}
+            "facts_taken_total": 5, "facts_lacked_by_peer": there, "windows_not_kept_by_peer": 0, "facts_erased_by_peer": 0, "open_conflicts": 2, "unseen_rulings": 1, "largest_window_bytes": largest}
     folders.put("more.cadf", facts(4))
     folders.takes("there/", ["more.cadf"])
     folders.equal("--metrics=m.prom", "here/", "there/", tells=tells)
@@ -1295,12 +1295,15 @@ def test_a_window_that_costs_too_much(folders, cost):
 
 @pytest.mark.parametrize("here, there, words", [(18000, 18000, []), (18000, 18000, ["--pull"]), (18000, 0, []), (0, 18000, [])])
 def test_a_window_of_more_facts_than_a_message_says(folders, here, there, words):
-    """A stranger's window whose digests no message has, at one end or both, is named and left out if they are needed; no other is."""
+    """A stranger's window whose digests no message has, at one end or both, is named and left out if they are needed; no other is.
+
+    A message may be as long as its reader allows: the other end, which hears the digests of a pull, has no such limit.
+    """
     more = {"here/": range(9, 9 + 28 * here, 28), "there/": range(9 + 28 * 18000, 9 + 28 * 18000 + 28 * there, 28)}
     for name, own in (("here/", 1), ("there/", 2)):
         folders.put(name, many(own, 9 + 28 * (40000 + own), *more[name]))
     answer = folders.sync("--json", "--limit=%d" % 2 ** 20, *words, "here/", "there/")
-    told, is_left = json.loads(answer.output or "{}"), bool(here and there)
+    told, is_left = json.loads(answer.output or "{}"), bool(here and there and not words)
     assert answer.status == (5 if is_left else 0) and told.get("windows_left_out") == int(is_left), answer
     assert not is_left or re.match("cadf-sync: left out 2024-03-10: .*is too large for a message of 1048576 bytes: raise --limit at both ends", said(answer))
     assert many(1, 2) <= folders.holds("here/") and (words or many(1, 2) <= folders.holds("there/"))
@@ -1356,7 +1359,7 @@ def test_metrics_of_a_spool(folders):
     words = ["--by=day", "--log=g", "--unchanged=0", "--metrics=m.prom", "here/", "spool"]
     assert folders.runs("cadf-spool", *words).status == 1
     assert numbers(folders.path / "m.prom", '{tool="cadf-spool",site="here/"}') == {
-        "facts_taken_total": 7, "open_conflicts": 1, "unseen_rulings": 0, "set_aside_oldest_timestamp_seconds": int((folders.path / "spool" / "set-aside" / "bad.cadf").stat().st_mtime), 'files{,became="taken"}': 1, 'files{,became="set aside"}': 1, 'files{,became="waiting"}': 0,
+        "facts_taken_total": 7, "facts_erased_total": 0, "open_conflicts": 1, "unseen_rulings": 0, "set_aside_oldest_timestamp_seconds": int((folders.path / "spool" / "set-aside" / "bad.cadf").stat().st_mtime), 'files{,became="taken"}': 1, 'files{,became="set aside"}': 1, 'files{,became="waiting"}': 0,
         "set_aside_files": 1, "set_aside_bytes": len(file_of("g", facts(3))[:-9]) + len((folders.path / "spool" / "set-aside" / "bad.cadf.reason").read_bytes()),
         "largest_window_bytes": len(file_of("g", facts(2) - facts() | failed(2)))}
 
