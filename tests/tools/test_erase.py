@@ -13,7 +13,7 @@ from tests.reference.list_files import ERASED, list_with, read_erased_list
 from tests.reference.replica_files import read_file
 from tests.reference.seal_files import key_leaf, leaf_of, sealed_in
 from tests.reference.split_files import in_order, parts_of
-from tests.tools.copies import is_caught
+from tests.tools.copies import copied, is_caught
 from tests.tools.faulty import calls_of
 from tests.tools.kept_sites import Place, atoms_of, digits_of, event, gone_of, with_digest
 
@@ -211,6 +211,20 @@ def test_a_held_window_keeps_its_keys(place):
     place.run("cadf-forget", "--release", "2024-03-02", "site")
     place.run("cadf-erase", "site", "e2")
     assert held(place) == set()
+
+
+def test_a_list_that_nobody_could_read(place):
+    """Nothing goes: a site whose list is too long for its readers would be refused by each of them, for good."""
+    place.site(1, 2)
+    before = place.lines()
+    short = Place(place.cadf, place.path, copied(str(place.path / "copy"), "LONGEST_INDEX = 2 ** 28", "LONGEST_INDEX = %d" % sum(map(len, [*before, *before]))))
+    many = [event("x1", 3, tags=["tag-%d" % number for number in range(20)])]
+    place.run("cadf-take", "site", place.put("many.json", *many))
+    before, names = place.lines(), sorted(os.listdir(place.path / "site"))
+    said = short.run("cadf-erase", "site", "x1", status=1).error.decode()
+    assert "its list of what was erased would have more than " in said and "nothing went: name fewer events" in said
+    assert place.lines() == before and {name for name in os.listdir(place.path / "site") if name[0] != "."} == {name for name in names if name[0] != "."}
+    place.run("cadf-take", "site", "first.json")
 
 
 def test_a_damaged_window(place):
