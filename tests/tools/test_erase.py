@@ -213,18 +213,22 @@ def test_a_held_window_keeps_its_keys(place):
     assert held(place) == set()
 
 
-def test_a_list_that_nobody_could_read(place):
-    """Nothing goes: a site whose list is too long for its readers would be refused by each of them, for good."""
+SHORT = ["LONGEST_INDEX = 2 ** 28", "LONGEST_INDEX = 1000"]
+
+
+def no_reader(place):
+    """Nothing goes by a list that is too long for its readers: each of them would refuse the site from then on."""
     place.site(1, 2)
-    before = place.lines()
-    short = Place(place.cadf, place.path, copied(str(place.path / "copy"), "LONGEST_INDEX = 2 ** 28", "LONGEST_INDEX = %d" % sum(map(len, [*before, *before]))))
-    many = [event("x1", 3, tags=["tag-%d" % number for number in range(20)])]
-    place.run("cadf-take", "site", place.put("many.json", *many))
-    before, names = place.lines(), sorted(os.listdir(place.path / "site"))
-    said = short.run("cadf-erase", "site", "x1", status=1).error.decode()
-    assert "its list of what was erased would have more than " in said and "nothing went: name fewer events" in said
-    assert place.lines() == before and {name for name in os.listdir(place.path / "site") if name[0] != "."} == {name for name in names if name[0] != "."}
-    place.run("cadf-take", "site", "first.json")
+    place.run("cadf-take", "site", place.put("many.json", event("x1", 3, tags=["tag-%d" % number for number in range(20)])))
+    before = {name: (place.path / "site" / name).read_bytes() for name in os.listdir(place.path / "site") if name[0] != "."}
+    said = place.run("cadf-erase", "site", "x1", status=1).error.decode()
+    assert "its list of what was erased would have more than 1000 bytes" in said and "nothing went: name fewer events" in said
+    assert {name: (place.path / "site" / name).read_bytes() for name in os.listdir(place.path / "site") if name[0] != "."} == before
+    place.run("cadf-erase", "site", "e1")
+
+
+def test_a_list_that_nobody_could_read(place):
+    no_reader(Place(place.cadf, place.path, copied(str(place.path / "copy"), *SHORT)))
 
 
 def test_a_damaged_window(place):
@@ -361,6 +365,30 @@ def test_the_spool_drops_it(place):
     done = place.run("cadf-admit", "--take", "site", "spool", waits.name)
     assert done.error.decode() == "cadf-admit: %s: site: facts that are left out, since they were erased here: 1\n" % waits.name
     assert held(place) == atoms_of(event("e2", 2), event("e3", 2), event("e8", 20)) and not waits.exists()
+
+
+SPELLINGS = {
+    "as it is": '"p\u00e9r\U0001f600\\"son/7"',
+    "escapes": '"\\u0070\\u00E9r\\uD83d\\uDe00\\u0022son\\/7"',
+    "a text in a text": json.dumps(json.dumps({"id": 'p\u00e9r\U0001f600"son/7'})),
+    "a text in a text of UTF-8": json.dumps(json.dumps({"id": 'p\u00e9r\U0001f600"son/7'}, ensure_ascii=False), ensure_ascii=False),
+}
+
+
+def spelled(place):
+    """A file has an identifier however a sender spelled it, also across the pieces that are read, and while it waits. Another one is not named."""
+    place.site(1)
+    for part in ("taken", "set-aside", "taking"):
+        os.makedirs(place.path / "spool" / part)
+    (place.path / "spool" / "taken" / "other.json").write_text('"p\\u00e8r\\ud83d\\ude00\\"son/7"' + 2 ** 20 * "\\")
+    for part, (name, text) in zip(("taken", "set-aside", "taking", "taken"), SPELLINGS.items()):
+        (place.path / "spool" / part / name).write_text((2 ** 20 - 10) * " " + text)
+    done = place.run("cadf-erase", "--json", "--spool", "spool", "site", 'p\u00e9r\U0001f600"son/7', status=5)
+    assert sorted(name.split("/")[-1] for name in json.loads(done.output)["may_hold"]) == sorted(SPELLINGS)
+
+
+def test_every_spelling_is_found(place):
+    spelled(place)
 
 
 def test_a_repair_brings_nothing_back(place):
@@ -528,6 +556,10 @@ WRONG = {
     "any list is enough": (erased_by_seals, ["        check_erased(name, options.erased)\n", "        pass\n"]),
     "the facts that went have no names": (a_person_goes, ['listed = listed.with_names(name for name in went.names if name.startswith(b"F"))', "pass"]),
     "what comes is taken": (dropped, ["        with found.left_of(inputs) as (inputs, limits.erased):\n", "        with contextlib.nullcontext((inputs, 0)) as (inputs, limits.erased):\n"]),
+    "no escape is undone": (spelled, ["ESCAPE.sub(character, data)", "data"]),
+    "half of a character": (spelled, ['b"".join(filter(None, found.groups()))', "(found[1] or found[3])"]),
+    "what waits is not looked at": (spelled, ['("taken", "set-aside", "taking")', '("taken", "set-aside")']),
+    "a list of any size": (no_reader, ["            if len(each.bytes()) > LONGEST_INDEX:\n", "            if False:\n"]),
     "the rest has it": (dropped, ["            with limits.finished(found, inputs):\n                found.join_by_size()",
                                  "            with limits.finished(found, given):\n                found.join_by_size()", "        limits.kept = found.kept\n        with", "        limits.kept, given = found.kept, inputs\n        with"]),
 }
@@ -536,4 +568,4 @@ WRONG = {
 @pytest.mark.parametrize("check, texts", WRONG.values(), ids=WRONG)
 def test_wrong_versions_are_caught(cadf, tmp_path, check, texts):
     (tmp_path / "place").mkdir()
-    is_caught(str(tmp_path), texts, check, lambda tools: Place(cadf, tmp_path / "place", tools))
+    is_caught(str(tmp_path), (SHORT if check is no_reader else []) + texts, check, lambda tools: Place(cadf, tmp_path / "place", tools))
