@@ -22,6 +22,7 @@ from cadf_toolkit import REFUSED, Fault, Input, another_program, as_input, cadf,
 FILE = re.compile(r"erased\.([0-9a-f]{64})")
 HEAD = "CADF-ERASED 1\nL %s\n"
 NAME = re.compile(rb"[FK] [0-9a-f]{64}")
+LINE = 67  # bytes of a name's line
 COUNTED = re.compile(rb" atoms (\d+) conflicts \d+\n$")  # what cadf says of files that it checks
 KEYS, KEY = b"CADF-KEYS 1", re.compile(rb'\["[EGMPR]","[^\n]*"\]')  # how a file of keys begins, and a line of one
 NO_KEYS = "%s: no file of keys, as `cadf-events --keys SITE` writes it"
@@ -49,7 +50,7 @@ class Erased:
     """A list of what was erased of a log, by the canonical text of its name: lines without their line feeds."""
 
     def __init__(self, log, names=()):
-        self.log, self.names = log, frozenset(names)
+        self.log, self.names, self.made = log, frozenset(names), None
 
     @classmethod
     def read(cls, data, log):
@@ -59,7 +60,14 @@ class Erased:
         return found if all(map(NAME.fullmatch, found.names)) and found.bytes() == data else None
 
     def bytes(self):
-        return with_digest((HEAD % self.log).encode() + b"".join(name + b"\n" for name in sorted(self.names)))
+        """The file. It is made once: a list may have millions of lines."""
+        if self.made is None:
+            self.made = with_digest((HEAD % self.log).encode() + b"".join(name + b"\n" for name in sorted(self.names)))
+        return self.made
+
+    def size_with(self, more):
+        """How many bytes the list would have with so many names more, or the own ones."""
+        return len(self.bytes()) + LINE * max(0, more)
 
     def digits(self):
         """The digits of its last line, by which it is named."""

@@ -16,6 +16,7 @@ from tests.tools.test_erase import held, key_name, lists, rule
 
 DEAF = ['    found = members.get("erased")\n', "    found = None\n",
         '        erased = {"erased": [own.digits(), len(own.names)]} if own and (own.names or "erased" in members) else {}\n', "        erased = {}\n"]  # an end that knows of no list
+SHORT = ["MOST_LIST = 2 ** 26", "MOST_LIST = 150"]
 NUMBERS = "taken_here", "taken_there", "windows_differed", "facts_erased_there"
 
 
@@ -158,12 +159,29 @@ def test_a_wrong_list(place, data):
     assert b"the list of what host:there erased: " in done.error and place.lines() == before
 
 
-def test_a_list_that_is_too_long(place):
+def long_lists(place):
+    """Lists that no message has stop no exchange, and bring nothing back: that is said, with what to do, until both ends have the same list."""
+    place.site(1, 2, name="north")
+    place.run("cadf-take", "--by", "day", "south", place.put("south.json", *events(1, 3)))
+    place.run("cadf-erase", "north", "e1")
+    said = "cadf-sync: %s: the list of what it or this site erased has more than 150 bytes, so lists were not exchanged: adopt each other's from files, by `cadf-erase --adopt LIST SITE/`\n"
+    for first, second in (("south", "north"), ("north", "south")):
+        assert said % second in sync(place, first, second, status=5)[1]
+        assert atoms(place, "north") == atoms_of(*events(2, 3)) and place.atoms("south") == atoms_of(*events(1, 2, 3))
+    place.run("cadf-erase", "--adopt", "north", "south")
+    assert sync(place, "south", "north") == ([0, 0, 0, 0], "") and atoms(place, "south") == atoms_of(*events(2, 3))
+
+
+def test_lists_that_are_too_long(place):
+    long_lists(Place(place.cadf, place.path, copied(str(place.path / "copy"), *SHORT)))
+
+
+def test_a_list_that_is_longer_than_was_told(place):
     """It is refused before it is read, whatever the limit of messages."""
     place.site(1, name="north")
     place.run("cadf-take", "--by", "day", "south", "first.json")
     place.run("cadf-erase", "north", "e1")
-    short = Place(place.cadf, place.path, copied(str(place.path / "copy"), "MOST_LIST = 2 ** 26", "MOST_LIST = 150"))
+    short = Place(place.cadf, place.path, copied(str(place.path / "copy"), *SHORT, "    return tuple(found)\n", "    return found[0], 0\n"))
     done = short.run("cadf-sync", "south", "north", status=1)
     assert b"the list of what north erased: more than 150 bytes" in done.error and place.atoms("south") == atoms_of(*events(1))
 
@@ -239,3 +257,16 @@ WRONG = {
 def test_wrong_versions_are_caught(cadf, tmp_path, texts):
     (tmp_path / "place").mkdir()
     is_caught(str(tmp_path), texts, lists_that_differ, lambda tools: Place(cadf, tmp_path / "place", tools))
+
+
+LONG = {
+    "a long list is sent": ["        say(LONG_LIST % (far.link.peer, MOST_LIST))\n        return\n", "        say(LONG_LIST % (far.link.peer, MOST_LIST))\n"],
+    "the other end's names don't count": ["own.size_with(far.erased[1] - len(own.names))", "own.size_with(0)"],
+    "all is done, it says": ["or erased or far.is_list_long or", "or erased or"],
+}
+
+
+@pytest.mark.parametrize("texts", LONG.values(), ids=LONG)
+def test_wrong_versions_of_long_lists(cadf, tmp_path, texts):
+    (tmp_path / "place").mkdir()
+    is_caught(str(tmp_path), SHORT + texts, long_lists, lambda tools: Place(cadf, tmp_path / "place", tools))
