@@ -159,10 +159,11 @@ def keys_in_file(input, log):
         raise Fault(NO_KEYS % input.name, REFUSED)
     try:
         own = log_name(lines[1].removeprefix(b"L ").decode()) if lines[1].startswith(b"L ") else None
-        keys = [tuple(json.loads(line)) for line in lines[2:-2] if KEY.fullmatch(line)]
-    except (ValueError, RecursionError):
-        own, keys = None, []
-    if own is None or data != keys_file(own, keys):
+        keys = [(letter, key) for letter, key in map(json.loads, filter(KEY.fullmatch, lines[2:-2]))]
+        is_whole = own is not None and data == keys_file(own, keys)
+    except (ValueError, RecursionError):  # also of a text that has no UTF-8
+        is_whole = False
+    if not is_whole:
         raise Fault(NOT_WHOLE % input.name, REFUSED)
     if own != log:
         raise Fault("%s: %s" % (input.name, other_log(own)), REFUSED)

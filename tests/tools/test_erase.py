@@ -184,6 +184,8 @@ WRONG_KEYS = {
     "another letter": (with_digest(["CADF-KEYS 1", 'L "g"', '["U","e1"]']), "damaged"),
     "a number": (with_digest(["CADF-KEYS 1", 'L "g"', '["E",1]']), "damaged"),
     "another text": (with_digest(["CADF-KEYS 1", 'L "g"', '["E", "e1"]']), "damaged"),
+    "three texts": (with_digest(["CADF-KEYS 1", 'L "g"', '["E","e1","e2"]']), "damaged"),
+    "half of a character": (with_digest(["CADF-KEYS 1", 'L "g"', r'["E","\ud800"]']), "damaged"),
     "cut": (with_digest(["CADF-KEYS 1", 'L "g"', '["E","e1"]'])[:-20], "damaged"),
     "another digest": (with_digest(["CADF-KEYS 1", 'L "g"', '["E","e1"]']).replace(b"e1", b"e2"), "damaged"),
 }

@@ -186,6 +186,16 @@ def test_a_list_that_is_longer_than_was_told(place):
     assert b"the list of what north erased: more than 150 bytes" in done.error and place.atoms("south") == atoms_of(*events(1))
 
 
+def test_a_list_is_told_once(place):
+    """A caller that tells lists without end has none of them kept: each would be one more to leave out of every window."""
+    place.site(1, 2, name="north")
+    told = [list_with(ERASED, "g", (), [bytes([number]) * 32]) for number in range(2)]
+    hello = {"limit": 2 ** 30, "timeout": 60, "site": str(place.path / "north"), "log": "g", "unit": "day"}
+    done = place.run("cadf-sync", "--serve", "north", status=1,
+                     input=b"CADF-SYNC 1 %s\n" % json.dumps(hello).encode() + b"".join(b"erased %d\n" % len(each) + each for each in told))
+    assert done.output.count(b"\nerased ") == 1 and b"\nfault " in done.output and b"a list is told once" in done.output
+
+
 def test_lists_without_end(place):
     """The index keeps what is left for a few lists, whatever peers tell."""
     place.site(1, 2, name="north")
