@@ -64,7 +64,7 @@ LOST = "the site is damaged: restore it as the guide says under `A damaged site`
 LATER = "a later release wrote it: have that one, or a newer one, here"
 KEEPS = "%s keeps from %s on: what was older went"
 NO_FILE = "not a regular file: "
-TOO_LONG_LIST = "%s: its list %s would have more than %d bytes, and no tool would read it: nothing went: name fewer events, without those of most facts"
+TOO_LONG_LIST = "%s: its list of what went or was erased would have more than %d bytes, and no tool would read it: nothing went: name fewer events, without those of most facts"
 OTHER_CONTENT = "it holds something else than its name says: " + DAMAGED
 
 
@@ -921,9 +921,8 @@ class Taking:
     def forget(self, gone, erased=None):
         """Replaces `site` by one that names this file of what went, this list of what was erased or the one before, and files of what is kept; then the others go."""
         erased = erased or self.erased
-        for what, each in (("of what went", gone), ("of what was erased", erased)):
-            if len(each.bytes()) > LONGEST_INDEX:
-                raise Fault(TOO_LONG_LIST % (self.folder.shown(), what, LONGEST_INDEX), REFUSED)
+        if max(len(each.bytes()) for each in (gone, erased)) > LONGEST_INDEX:
+            raise Fault(TOO_LONG_LIST % (self.folder.shown(), LONGEST_INDEX), REFUSED)
         self.give_up_room()
         before, self.kept, self.erased = self.index, gone.kept, erased
         for module, each in ((cadf_gone, gone), *([(cadf_erased, erased)] if erased.names else [])):

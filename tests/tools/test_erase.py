@@ -224,7 +224,7 @@ def no_reader(place):
     place.run("cadf-take", "site", place.put("many.json", event("x1", 3, tags=["tag-%d" % number for number in range(20)])))
     before = {name: (place.path / "site" / name).read_bytes() for name in os.listdir(place.path / "site") if name[0] != "."}
     said = place.run("cadf-erase", "site", "x1", status=1).error.decode()
-    assert "its list of what was erased would have more than 1000 bytes" in said and "nothing went: name fewer events" in said
+    assert "its list of what went or was erased would have more than 1000 bytes" in said and "nothing went: name fewer events" in said
     assert {name: (place.path / "site" / name).read_bytes() for name in os.listdir(place.path / "site") if name[0] != "."} == before
     place.run("cadf-erase", "site", "e1")
 
@@ -561,7 +561,7 @@ WRONG = {
     "no escape is undone": (spelled, ["ESCAPE.sub(character, data)", "data"]),
     "half of a character": (spelled, ['b"".join(filter(None, found.groups()))', "(found[1] or found[3])"]),
     "what waits is not looked at": (spelled, ['("taken", "set-aside", "taking")', '("taken", "set-aside")']),
-    "a list of any size": (no_reader, ["            if len(each.bytes()) > LONGEST_INDEX:\n", "            if False:\n"]),
+    "a list of any size": (no_reader, ["        if max(len(each.bytes()) for each in (gone, erased)) > LONGEST_INDEX:\n", "        if False:\n"]),
     "the rest has it": (dropped, ["            with limits.finished(found, inputs):\n                found.join_by_size()",
                                  "            with limits.finished(found, given):\n                found.join_by_size()", "        limits.kept = found.kept\n        with", "        limits.kept, given = found.kept, inputs\n        with"]),
 }
