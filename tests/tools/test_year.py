@@ -16,7 +16,7 @@ TOLD = ["cadf-spool tells set_aside_files of north", "cadf-sync tells open_confl
 def test_a_fortnight(cadf, tmp_path):
     (tmp_path / "sites").mkdir()
     log = lived(str(tmp_path / "sites"), cadf, FORTNIGHT, tools=copied(str(tmp_path / "copy")))  # which are compiled: most of it are starts of them
-    assert len(PLOTS) == 8 and all(any(told in line for line in log) for told in TOLD), log
+    assert len(PLOTS) == 9 and all(any(told in line for line in log) for told in TOLD), log
 
 
 @pytest.mark.timeout(600)

@@ -4,12 +4,10 @@
 
 Each day events arrive at the spools of the sites, each event at two of them, some late and some again, and the timers run: cadf-spool,
 cadf-scrub, cadf-sync round the ring, cadf-settle at the end of a week. Meanwhile a byte of a file changes on a disk, a relay lies, two
-people rule, a stranger forges a body with a ruling, a site's own hand does so, a disk is full, a backup of last week is put in place of a
+people rule, alike and not, a stranger forges a body with a ruling, a site's own hand does so, a disk is full, a backup of last week is put in place of a
 site, a clock is in 1970, and so is one of a sender. The operator reads nothing but numbers, statuses and lines: of each fault a number
 or a status of that day differs, a line names a command, and that command ends it. At the end the sites are equal, byte for byte, and each event
-that arrived is in them, or was dropped by the operator.
-
-Two people who rule for different values leave a key open for good: there is no command that ends this, so it is left out.
+that arrived is in them, or was dropped or erased by the operator.
 """
 import argparse
 import datetime
@@ -149,9 +147,9 @@ class Year:
         told = {key: each for key, each in self.told.items() if each}
         demand(not told, "day", self.day, "tells", told, [self.lines[key] for key in told])
 
-    def rules(self, site, who, event):
-        """Has somebody rule for an event as it arrived, sign that, and take it."""
-        digest = hashlib.sha256(next(atom[2] for atom in self.sent if atom[:2] == ("E", event["id"]) and '"failure"' in atom[2]).encode()).hexdigest()
+    def rules(self, site, who, event, outcome="failure"):
+        """Has somebody rule for an event as it arrived, or for another outcome, sign that, and take it. Returns the digest of the value."""
+        digest = hashlib.sha256(next(atom[2] for atom in self.sent if atom[:2] == ("E", event["id"]) and '"%s"' % outcome in atom[2]).encode()).hexdigest()
         _, listed, _ = self.run("cadf-conflicts", site + "/")
         with open(self.path("choices"), "w", encoding="utf-8") as file:
             file.writelines(line.replace("# E", "E").replace("  ruled", "") for line in listed.splitlines(True) if ' %s' % digest in line)
@@ -160,6 +158,7 @@ class Year:
             file.write(output)
         self.sent |= read_file(output.encode())[1]
         self.run("cadf-take", site + "/", "rulings.cadf", wanted=0)
+        return digest
 
     def look(self):
         """Looks at what is ruled at each site."""
@@ -187,7 +186,7 @@ class Year:
             self.run("cadf-which", site + "/", wanted=0)
             held = self.atoms(site)
             demand(held == self.sent - self.dropped, site, "lacks", self.sent - self.dropped - held, "and has", held - self.sent)
-            demand(self.text(site, "site") == self.text("north", "site"), site, "has other files than north")
+            demand(self.files(site) == self.files("north"), site, "has other files than north")
         self.run("cadf-agree", *(site + "/" for site in RING), wanted=0)
 
 
@@ -221,6 +220,28 @@ def a_relay_lies_and_two_rule(year):
         _, listed, _ = year.run("cadf-conflicts", "--verify", "allowed", site + "/")
         demand(all('  ruled\n#   ruled by "%s" at ' % who in listed or '\n#   ruled by "%s" at ' % who in listed for who in ("ann", "bob")), listed)
         demand(", signed: \"asked\"" in listed, listed)
+    year.look()
+
+
+def two_rule_apart(year):
+    """A key has two rulings for different values, so it stays open, until one of them is erased: at each site, and in the backup."""
+    event = year.an_event()
+    year.arrives("south", "apart-%d.json" % year.day, {**event, "outcome": "success"})
+    yield
+    year.is_cut = True
+    year.rules("north", "ann", event)
+    digest = year.rules("west", "bob", event, "success")
+    yield
+    year.is_cut = False
+    yield
+    year.is_told("south", "cadf-sync", "open_conflicts", "cadf-conflicts")
+    _, listed, said = year.run("cadf-conflicts", "south/", wanted=5)
+    demand("open, 2 values, 2 ruled" in listed and "cadf-erase --ruling DIGEST" in said, listed, said)
+    for site in RING:
+        _, output, _ = year.run("cadf-erase", "--ruling", digest, "--as", "ann", "--why", "bob agrees", site + "/")
+        demand("erased 1 facts; 0 keys and 1 rulings are new on its list" in output, output)
+    year.run("cadf-erase", "--adopt", "north/", "backup/", wanted=0)
+    year.dropped.add(("U", "E", event["id"], digest))
     year.look()
 
 
@@ -294,7 +315,7 @@ def a_machines_clock(year):
 
 
 PLOTS = (a_senders_clock, a_relay_lies_and_two_rule, a_stranger_forges_a_ruling, a_disk_is_full, a_byte_changes, a_sites_own_hand_forges_one, an_old_backup,
-         a_machines_clock)
+         a_machines_clock, two_rule_apart)
 
 
 def lived(folder, binary, days, seed=0, plots=PLOTS, tools=TOOLS, quiet=2):
@@ -321,7 +342,7 @@ def lived(folder, binary, days, seed=0, plots=PLOTS, tools=TOOLS, quiet=2):
     return year.log
 
 
-FORTNIGHT = 14
+FORTNIGHT = 17  # days, and some more, in which each of these comes once
 
 
 def main():
