@@ -1295,15 +1295,14 @@ def test_a_window_that_costs_too_much(folders, cost):
 
 @pytest.mark.parametrize("here, there, words", [(18000, 18000, []), (18000, 18000, ["--pull"]), (18000, 0, []), (0, 18000, [])])
 def test_a_window_of_more_facts_than_a_message_says(folders, here, there, words):
-    """A stranger's window whose digests no message has, at one end or both, is named and left out if they are needed; no other is.
-
-    A message may be as long as its reader allows: the other end, which hears the digests of a pull, has no such limit.
-    """
+    """A stranger's window whose digests no message has, at one end or both, is named and left out if they are needed; no other is."""
     more = {"here/": range(9, 9 + 28 * here, 28), "there/": range(9 + 28 * 18000, 9 + 28 * 18000 + 28 * there, 28)}
     for name, own in (("here/", 1), ("there/", 2)):
         folders.put(name, many(own, 9 + 28 * (40000 + own), *more[name]))
-    answer = folders.sync("--json", "--limit=%d" % 2 ** 20, *words, "here/", "there/")
-    told, is_left = json.loads(answer.output or "{}"), bool(here and there and not words)
+    limit = ["--limit=%d" % 2 ** 20]  # of the end that is to hear the digests: of a pull the other one
+    has_shell(folders, folders.tools, *(limit if words else []), "there/")
+    answer = folders.sync("--json", *(words or limit), "--rsh=./shell", "here/", "h:there/")
+    told, is_left = json.loads(answer.output or "{}"), bool(here and there)
     assert answer.status == (5 if is_left else 0) and told.get("windows_left_out") == int(is_left), answer
     assert not is_left or re.match("cadf-sync: left out 2024-03-10: .*is too large for a message of 1048576 bytes: raise --limit at both ends", said(answer))
     assert many(1, 2) <= folders.holds("here/") and (words or many(1, 2) <= folders.holds("there/"))
