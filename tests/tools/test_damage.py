@@ -108,7 +108,7 @@ def states(output):
 def test_what_a_damaged_window_may_settle_or_open_is_unknown(sites):
     bodies(sites)
     status, output, lines = sites.run("conflicts", "north/")
-    assert (status, lines) == (5, ["cadf-conflicts: open 1, settled 2, unseen 3"]) and states(output) == {"s": "settled", "u": "settled", "w": "open"}
+    assert (status, lines[1:]) == (5, ["cadf-conflicts: open 1, settled 2, unseen 3"]) and "cadf-erase --ruling" in lines[0] and states(output) == {"s": "settled", "u": "settled", "w": "open"}
     changed(file_of(sites.north, FIRST))
     status, output, lines = sites.run("conflicts", "north/")
     assert status == 1 and left_out("conflicts", FIRST, lines[:1]) and lines[1:] == ["cadf-conflicts: open 0, settled 1, unknown 2"]

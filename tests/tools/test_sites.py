@@ -250,8 +250,8 @@ def test_another_value_of_a_ruled_key(sites):
     assert sites.rules("ruled", "--again") == sites.missing("twice", "ruled")
     status, output, said = sites.tool("conflicts", "twice")
     assert status == 5 and '# E "a b": open, 3 values, 2 ruled\n' in output.decode()
-    assert said[1:] == ["cadf-conflicts: of the open ones 1 have rulings for different values: agree on one, and have each site erase the other one: "
-                        "cadf-erase --ruling DIGEST SITE"]
+    assert said[:-1] == ["cadf-conflicts: of the open ones 1 have rulings for different values: agree on one, and have each site erase the other one: "
+                         "cadf-erase --ruling DIGEST SITE"]
 
 
 def test_list_for_programs(sites):
